@@ -1,0 +1,5 @@
+pub mod Faults
+pub mod Pairs
+pub mod Ordinary
+pub mod Wraparound
+pub mod Laws

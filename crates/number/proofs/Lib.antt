@@ -1,0 +1,4 @@
+pub mod Rank
+pub mod Sum
+pub mod Order
+pub mod Arith

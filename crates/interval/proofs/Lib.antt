@@ -1,2 +1,4 @@
 pub mod Literals
 pub mod Between
+pub mod Wraps
+pub mod Covers

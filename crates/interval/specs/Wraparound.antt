@@ -2,8 +2,19 @@
 use mathlib.Core.Bool.{Bool, true, false, _&&_, _||_, cond, Bool·beq}
 use lib.Ieee.{Float, inf, binary64, sub, eq, le, lt, isNan}
 use Rattle.std.specs.Floats.{least, most, withSign}
-use Rattle.interval.specs.Pairs.{Pair, pair, nothing, everything, empty, wraps, covered, width as innerWidth}
+use Rattle.std.specs.declared.result.Result.{Result}
+use Rattle.std.specs.declared.result.Result.the-variants.{Ok, Err}
+use Rattle.interval.specs.declared.fault.Cause.the-variants.{Downward}
+use Rattle.interval.specs.declared.fault.Fault.{Fault}
+use Rattle.interval.specs.declared.kinds.Interval.{Interval}
+use Rattle.interval.specs.declared.kinds.WraparoundInterval.{WraparoundInterval}
+use Rattle.interval.specs.Faults.{at}
+use Rattle.interval.specs.Pairs.{Pair, pair, innerEnds, nothing, everything, empty, wraps, covered, width as innerWidth}
 use Rattle.interval.specs.Ordinary as Ordinary
+
+-- the pair as an `Interval`, unless it wraps
+abbrev pub unwrapped : WraparoundInterval → Result Interval Fault
+unwrapped w = cond (wraps (innerEnds w)) (Err (at Downward 0)) (Ok (w .inner))
 
 -- the two ordinary parts of a pair: up to hi and from lo on, or else the pair itself and nothing
 abbrev pub left : Pair → Pair

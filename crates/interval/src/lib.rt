@@ -3,6 +3,7 @@ mod fault;
 mod interval_trait;
 mod kinds;
 mod ordinary;
+mod wraparound;
 
 pub use fault::Cause;
 pub use fault::CauseDebug;
@@ -19,3 +20,7 @@ pub use kinds::WraparoundInterval;
 pub use ordinary::IntervalBounds;
 pub use ordinary::IntervalFromFloats;
 pub use ordinary::IntervalFromIntegers;
+pub use wraparound::WraparoundBounds;
+pub use wraparound::WraparoundFromFloats;
+pub use wraparound::WraparoundFromIntegers;
+pub use wraparound::WraparoundFromInterval;

@@ -7,4 +7,4 @@ pub returns : need.returns
 returns c =
     let s = c .args .self .now in
     let o = c .args .other .now in
-    record { law = contains (ends s) (ends o) (s .held .0) (s .held .1) (o .held .0) (o .held .1); exact = refl }
+    record { law = contains (ends s) (ends o) (s .held) (o .held); exact = refl }

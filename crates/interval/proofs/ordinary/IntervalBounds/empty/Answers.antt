@@ -4,4 +4,4 @@ use Rattle.interval.proofs.Between.{none}
 use Rattle.interval.proofs.ordinary.IntervalBounds.empty.Needs as need
 
 pub returns : need.returns
-returns c = rw (highest-bits, lowest-bits) (record { law = none; exact = refl })
+returns c = rw (highest-bits, lowest-bits) (record { law = λ v V. none v; exact = refl })

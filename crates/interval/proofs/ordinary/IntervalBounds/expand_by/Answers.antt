@@ -24,4 +24,4 @@ returns c =
     let d = c .args .distance in
     let h : Held d = search needs in
     let u : unmoved (ends s) d ≡ false = grind (arith, zero-bits) in
-    record { law = λ f. moves (ends s) d (s .held .0) (s .held .1) h f (grind arith) (grind arith); exact = rw u }
+    record { law = λ f. moves (ends s) d (s .held) h f (grind arith) (grind arith); exact = rw u }

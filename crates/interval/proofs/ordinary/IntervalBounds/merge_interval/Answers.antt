@@ -8,4 +8,4 @@ returns c =
     let s = c .args .self .now in
     let o = c .args .other .now in
     let e = c .update-interval .ensures in
-    record { law = rw e (merges (ends s) (ends o) (s .held .0) (s .held .1) (o .held .0) (o .held .1)); exact = e }
+    record { law = rw e (merges (ends s) (ends o) (s .held) (o .held)); exact = e }

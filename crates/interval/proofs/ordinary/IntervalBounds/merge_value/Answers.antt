@@ -10,4 +10,4 @@ returns c =
     let v = c .args .value in
     let h : Held v = search needs in
     let e = c .update-value .ensures in
-    record { law = rw e (adds (ends s) v (s .held .0) (s .held .1) h); exact = e }
+    record { law = rw e (adds (ends s) v (s .held) h); exact = e }

@@ -108,7 +108,7 @@ pub impl IntervalTrait for Interval as IntervalBounds {
         if hi < lo {
             return Err(Fault::new(Cause::Downward, 0));
         }
-        Ok(Interval { lo, hi })
+        Ok(Self::new(lo, hi))
     }
 
     fn empty() -> Self
@@ -134,19 +134,21 @@ pub impl IntervalTrait for Interval as IntervalBounds {
     fn lo(&self) -> f64
         ensures { λ r. ⌜ r ≡ now (self .entry) .lo ⌝ }
     {
-        self.lo
+        let Interval { lo, .. } = self;
+        *lo
     }
 
     fn hi(&self) -> f64
         ensures { λ r. ⌜ r ≡ now (self .entry) .hi ⌝ }
     {
-        self.hi
+        let Interval { hi, .. } = self;
+        *hi
     }
 
     fn is_wraparound(&self) -> bool
         ensures { λ r. ⌜ r ≡ false ⌝ }
     {
-        false
+        Self::kind_wraps()
     }
 
     fn intersects_value(&self, value: f64) -> bool

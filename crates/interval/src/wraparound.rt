@@ -78,16 +78,9 @@ fn closed(lo: f64, hi: f64) -> WraparoundInterval
     ensures { λ r. ⌜ innerEnds r ≡ Wraparound.closed (pair lo hi) ⌝ }
 {
     if lo <= hi {
-        WraparoundInterval {
-            inner: Interval {
-                lo: f64::NEG_INFINITY,
-                hi: f64::INFINITY,
-            },
-        }
+        WraparoundBounds::full()
     } else {
-        WraparoundInterval {
-            inner: Interval { lo, hi },
-        }
+        WraparoundBounds::new(lo, hi)
     }
 }
 
@@ -208,13 +201,13 @@ pub impl IntervalTrait for WraparoundInterval as WraparoundBounds {
     fn lo(&self) -> f64
         ensures { λ r. ⌜ r ≡ now (self .entry) .inner .lo ⌝ }
     {
-        self.inner.lo
+        self.inner.lo()
     }
 
     fn hi(&self) -> f64
         ensures { λ r. ⌜ r ≡ now (self .entry) .inner .hi ⌝ }
     {
-        self.inner.hi
+        self.inner.hi()
     }
 
     fn is_wraparound(&self) -> bool
@@ -260,21 +253,19 @@ pub impl IntervalTrait for WraparoundInterval as WraparoundBounds {
     fn width(&self) -> f64
         ensures { λ r. ⌜ r ≡ Wraparound.width (innerEnds (now (self .entry))) ⌝ }
     {
-        if self.is_wraparound() {
-            f64::INFINITY
-        } else {
-            self.inner.width()
+        if !self.is_wraparound() {
+            return self.inner.width();
         }
+        f64::INFINITY
     }
 
     fn mid(&self) -> f64
         ensures { λ r. ⌜ r ≡ Wraparound.middle (innerEnds (now (self .entry))) ⌝ }
     {
-        if self.is_wraparound() {
-            f64::INFINITY
-        } else {
-            self.inner.mid()
+        if !self.is_wraparound() {
+            return self.inner.mid();
         }
+        f64::INFINITY
     }
 
     fn is_empty(&self) -> bool

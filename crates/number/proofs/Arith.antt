@@ -12,9 +12,9 @@ use Rattle.std.specs.Floats.{zero, finite}
 use Rattle.number.proofs.Rank as Rank
 use Rattle.number.proofs.Rank.{reach, origin, origin-is}
 use Rattle.number.proofs.Sum as Sum
-use Rattle.number.proofs.Sum.{near, plus, less, limit, ends, near-pos, near-mono, near-sign, near-lowest}
+use Rattle.number.proofs.Sum.{near, plus, less, limit, ends, near-pos, near-mono, near-sign, near-lowest, near-highest}
 use Rattle.number.specs.Values.{Held, Value, Same}
-use Rattle.number.proofs.Order.{rank, rank-top, lowest-is, order, numbers, le-not-lt, same-rank, rank-same}
+use Rattle.number.proofs.Order.{rank, rank-top, lowest-is, highest-is, order, numbers, le-not-lt, same-rank, rank-same}
 
 pub half : (f : Format) (x : Float) → div f x (fin false 1 (pos 1)) ≡ mul f x (fin false 1 (negsuc 0))
 unfolding div mul
@@ -133,6 +133,10 @@ module _ (x y : Float) (h : Held x) (k : Held y) where
   -- y lies `limit` units or more above x, an infinity being farther from all else than that
   pub sub-lowest : eq (sub binary64 x y) (inf true) ≡ (ltb 0 (rank x) && leb (rank x + limit binary64) (rank y))
   sub-lowest = let w = rank-top y k in let l = ends binary64 .0 in grind (order, sub-is, sub-held, lowest-is, inf-fits, near-lowest binary64)
+
+  -- the difference turned round is then the upper infinity
+  pub sub-highest : eq (sub binary64 y x) (inf false) ≡ (ltb 0 (rank x) && leb (rank x + limit binary64) (rank y))
+  sub-highest = let v = rank-top x h in let w = rank-top y k in let l = ends binary64 .0 in grind (order, sub-is, sub-held, highest-is, inf-fits, near-highest binary64)
 
   pub sub-lowest-ends : eq (sub binary64 x y) (inf true) ≡ (lt x y && (not (finite x && finite y) || leb (rank x + limit binary64) (rank y)))
   sub-lowest-ends =

@@ -1,4 +1,5 @@
 pub mod Rank
+pub mod Plain
 pub mod Sum
 pub mod Order
 pub mod Arith

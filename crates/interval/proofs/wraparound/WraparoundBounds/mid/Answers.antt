@@ -3,10 +3,10 @@ use Rattle.interval.specs.Wraparound.{middle}
 use Rattle.interval.proofs.Literals.{highest-bits}
 use Rattle.interval.proofs.wraparound.WraparoundBounds.mid.Needs as need
 
-pub returns-then-is-wraparound : need.returns-then-is-wraparound
+pub returns-then-not-is-wraparound : need.returns-then-not-is-wraparound
 unfolding middle
-returns-then-is-wraparound c = grind (arith, highest-bits)
+returns-then-not-is-wraparound c = grind arith
 
-pub returns-else-is-wraparound : need.returns-else-is-wraparound
+pub returns : need.returns
 unfolding middle
-returns-else-is-wraparound c = grind arith
+returns c = grind (arith, highest-bits)

@@ -110,6 +110,48 @@ le-total x y = go (isNan x) (isNan y) refl refl
     go false true e f = grind arith
     go false false e f = let l = lt-is-not-le x y (grind arith) (grind arith) in let m = le-of-lt x y in grind arith
 
+equal-sides : (s t : Bool) (a b : ℕ) → level s a t b ≡ ((below s a t b || level s a t b) && (below t b s a || level t b s a))
+equal-sides true true a b = grind arith
+equal-sides true false a b = grind arith
+equal-sides false true a b = grind arith
+equal-sides false false a b = grind arith
+
+pub eq-is-les : (x y : Float) → eq x y ≡ (le x y && le y x)
+unfolding le lt eq
+eq-is-les nan y = refl
+eq-is-les (inf s) nan = grind arith
+eq-is-les (inf s) (inf t) = grind arith
+eq-is-les (inf s) (fin t n d) = grind arith
+eq-is-les (fin s m e) nan = grind arith
+eq-is-les (fin s m e) (inf t) = grind arith
+eq-is-les (fin s m e) (fin t n d) = equal-sides s t (m * up e * down d) (n * up d * down e)
+
+pub lt-of-not-le : (x y : Float) → T (not (isNan x)) → T (not (isNan y)) → T (not (le x y)) → T (lt y x)
+lt-of-not-le x y h k n = let l = lt-is-not-le y x k h in grind arith
+
+pub not-le-of-lt : (x y : Float) → T (lt x y) → le y x ≡ false
+not-le-of-lt x y h =
+    let m = le-of-lt x y h in
+    let l = lt-is-not-le x y (le-left x y m) (le-right x y m) in
+    grind arith
+
+pub lt-irrefl : (x : Float) → T (lt x x) → ⊥
+lt-irrefl x h = let a = not-le-of-lt x x h in let b = le-of-lt x x h in grind arith
+
+pub lt-of-lt-of-le : (x y z : Float) → T (lt x y) → T (le y z) → T (lt x z)
+lt-of-lt-of-le x y z h k =
+    let m = le-of-lt x y h in
+    let a = not-le-of-lt x y h in
+    let b = le-trans y z x k in
+    lt-of-not-le z x (le-right y z k) (le-left x y m) (grind arith)
+
+pub lt-of-le-of-lt : (x y z : Float) → T (le x y) → T (lt y z) → T (lt x z)
+lt-of-le-of-lt x y z h k =
+    let m = le-of-lt y z k in
+    let a = not-le-of-lt y z k in
+    let b = (λ (l : T (le z x)). le-trans z x y l h) in
+    lt-of-not-le z x (le-right y z m) (le-left x y h) (grind arith)
+
 -- ---- the smaller and the larger of two keep the first of equal ones, so they may be bracketed in any way
 pub least-assoc : (x y z : Float) → least (least x y) z ≡ least x (least y z)
 least-assoc x y z =
@@ -128,3 +170,50 @@ most-assoc x y z =
     let d = le-right z y in
     let e = le-left y x in
     grind arith
+
+-- a number is the smaller beside a NaN or the upper infinity, and the larger beside a NaN or the lower
+pub least-nan-left : (x y : Float) → T (isNan x) → T (not (isNan y)) → least x y ≡ y
+least-nan-left x y h k = let a = le-left x y in grind arith
+
+pub most-nan-left : (x y : Float) → T (isNan x) → T (not (isNan y)) → most x y ≡ y
+most-nan-left x y h k = let a = le-right y x in grind arith
+
+module _ (x : Float) (h : T (not (isNan x))) where
+  pub lowest-le : T (le (inf true) x)
+  lowest-le = go x h
+    where
+      go : (x : Float) → T (not (isNan x)) → T (le (inf true) x)
+      go nan h = absurd (unfold isNan in h)
+      go (inf true) h = unfold le in unfold lt in unfold eq in tt
+      go (inf false) h = unfold le in unfold lt in unfold eq in tt
+      go (fin s m e) h = unfold le in unfold lt in unfold eq in tt
+
+  pub le-highest : T (le x (inf false))
+  le-highest = go x h
+    where
+      go : (x : Float) → T (not (isNan x)) → T (le x (inf false))
+      go nan h = absurd (unfold isNan in h)
+      go (inf true) h = unfold le in unfold lt in unfold eq in tt
+      go (inf false) h = unfold le in unfold lt in unfold eq in tt
+      go (fin s m e) h = unfold le in unfold lt in unfold eq in tt
+
+  pub least-highest : least x (inf false) ≡ x
+  least-highest = let a = le-highest in grind arith
+
+  pub most-lowest : most x (inf true) ≡ x
+  most-lowest = let a = lowest-le in grind arith
+
+-- the infinities on the left give way to any number that is not the same infinity, which is then the same float
+pub highest-least : (x : Float) → T (not (isNan x)) → least (inf false) x ≡ x
+unfolding le lt eq isNan
+highest-least nan h = absurd h
+highest-least (inf true) h = refl
+highest-least (inf false) h = refl
+highest-least (fin s m e) h = refl
+
+pub lowest-most : (x : Float) → T (not (isNan x)) → most (inf true) x ≡ x
+unfolding le lt eq isNan
+lowest-most nan h = absurd h
+lowest-most (inf true) h = refl
+lowest-most (inf false) h = refl
+lowest-most (fin s m e) h = refl

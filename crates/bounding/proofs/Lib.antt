@@ -1,0 +1,10 @@
+pub mod Merging
+pub mod BitSets
+pub mod Gathers
+pub mod Walks
+pub mod Covers
+pub mod Exact
+pub mod Ordinates
+pub mod Alikes
+pub mod Takes
+pub mod Listing

@@ -5,5 +5,4 @@ ghost use Rattle.cases.specs.Cases.{told, wanted};
 // Carries the worked cases as its contract: what the definitions give is what the rules say. It does nothing.
 pub fn worked_cases()
     ensures { λ _. ⌜ told ≡ wanted ⌝ }
-{
-}
+{}

@@ -1,0 +1,10 @@
+// The script language of the program `pagebook`: reading its commands, asking the library and writing the answers.
+mod answer;
+mod line;
+mod pairs;
+mod program;
+mod session;
+mod wrong;
+
+pub use program::Stopped;
+pub use program::run;

@@ -1,0 +1,4 @@
+pub mod Functions
+pub mod Kinds
+pub mod Names
+pub mod Readings

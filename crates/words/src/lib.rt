@@ -1,0 +1,11 @@
+// The words of the script language that name a kind of bounds, a function or a number.
+mod function;
+mod kind;
+mod number;
+
+pub use function::Function;
+pub use function::OnePair;
+pub use function::PairAndValue;
+pub use function::TwoPairs;
+pub use kind::Kind;
+pub use number::read_number;

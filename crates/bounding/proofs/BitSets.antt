@@ -5,13 +5,11 @@ use Prim.Native.Nat.{ℕ, zero, suc, _+_, _*_, _/_, _%_, _^_, _<_, max}
 use native.Mathlib.Omega.{arith}
 use native.Mathlib.Nat.{mod-lt}
 use lib.Arith.{bin-ind}
-use lib.Dec.{lit<, lit≤}
+use lib.Dec.{lit<}
 use Prim.Native.Nat.{_≤_}
 use Rattle.shapes.specs.declared.code.Code.{Code}
 use Rattle.shapes.specs.declared.code.Kind.{Kind}
-use Rattle.shapes.specs.declared.code.Kind.the-variants.{Point, Line, Polygon, MultiPoint, MultiLine, MultiPolygon, Collection}
 use Rattle.shapes.specs.declared.code.Dimension.{Dimension}
-use Rattle.shapes.specs.declared.code.Dimension.the-variants.{Xy, Xyz, Xym, Xyzm}
 use Rattle.shapes.specs.Codes.{kindNumber, dimNumber}
 use lib.Bits.{bitOr, or-step, or-shr, or-mod, or-comm, or-self, or-zero-l, or-lt}
 use Rattle.std.proofs.shelf.Bits.{div-add-mod', pow-below}
@@ -71,22 +69,13 @@ codes-same a b f g = sym (codes-part b a g) ∙ or-comm (codesOf b) (codesOf a) 
 
 -- ---- the set has 28 bits
 dim-small : (d : Dimension) → dimNumber d ≤ 3
-dim-small Xy = lit≤ tt
-dim-small Xyz = lit≤ tt
-dim-small Xym = lit≤ tt
-dim-small Xyzm = lit≤ tt
+dim-small d = grind arith
 
-kind-small : (k : Kind) → kindNumber k ≤ 7
-kind-small Point = lit≤ tt
-kind-small Line = lit≤ tt
-kind-small Polygon = lit≤ tt
-kind-small MultiPoint = lit≤ tt
-kind-small MultiLine = lit≤ tt
-kind-small MultiPolygon = lit≤ tt
-kind-small Collection = lit≤ tt
+pub kind-range : (k : Kind) → (1 ≤ kindNumber k) × (kindNumber k ≤ 7)
+kind-range k = (grind arith, grind arith)
 
 pub place-small : (c : Code) → place c < 28
-place-small c = omega (arith, dim-small (c .dim), kind-small (c .kind))
+place-small c = omega (arith, dim-small (c .dim), kind-range (c .kind))
 
 pub codes-small : (ss : List Shape) → codesOf ss < 2 ^ 28
 unfolding codesOf

@@ -8,3 +8,4 @@ pub mod Ordinates
 pub mod Alikes
 pub mod Takes
 pub mod Listing
+pub mod Members

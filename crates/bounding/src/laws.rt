@@ -1,5 +1,6 @@
 // The laws of runs, hulls, records and code sets that contracts elsewhere rest on.
 ghost use Rattle.bounding.specs.Laws.{Hulls-exact, Keeps-members, Merges-lists, Merges-pages, Runs-exact, Tells-members};
+ghost use Rattle.bounding.specs.Numbers.{Numbers-exact};
 
 // Carries them as its contract. It does nothing.
 pub fn laws_hold()
@@ -9,4 +10,5 @@ pub fn laws_hold()
     ensures pages { λ _. ⌜ Merges-pages ⌝ }
     ensures kept { λ _. ⌜ Keeps-members ⌝ }
     ensures told { λ _. ⌜ Tells-members ⌝ }
+    ensures codes { λ _. ⌜ Numbers-exact ⌝ }
 {}

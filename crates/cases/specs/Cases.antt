@@ -1,64 +1,15 @@
--- Worked cases: what the definitions that the contracts cite give, beside what the rules say.
-use Prim.Native.Nat.{ℕ, pred}
-use mathlib.Core.Bool.{Bool, true, false}
-use mathlib.Core.List.{List, [], _∷_, map}
-use lib.IntN.{pos, negsuc}
-use lib.Ieee.{Float, inf, binary64, ofBits, ofInt}
-use Rattle.interval.specs.Pairs.{Pair, pair, nothing, everything}
-use Rattle.interval.specs.Ordinary as Ordinary
-use Rattle.interval.specs.Wraparound as Wraparound
+-- All worked cases together.
+use mathlib.Core.List.{List, _++_, map}
+use Rattle.cases.specs.Case.{Answer, Case}
+use Rattle.cases.specs.Kinds.{kinds}
+use Rattle.cases.specs.Shapes.{shapes}
+use Rattle.cases.specs.Bounder.{bounder}
 
-pub data Answer : Type 0 where
-  flag : Bool → Answer
-  number : Float → Answer
-  bounds : Pair → Answer
-
-pub record Case : Type 0 where
-  pub told : Answer
-  pub wanted : Answer
-
-abbrev case : Answer → Answer → Case
-case t w = record { told = t; wanted = w }
-
--- the whole numbers k and -k, the latter for k above 0
-abbrev plus : ℕ → Float
-plus k = ofInt binary64 (pos k)
-
-abbrev minus : ℕ → Float
-minus k = ofInt binary64 (negsuc (pred k))
-
--- 1e308
-abbrev huge : Float
-huge = ofBits binary64 0x7fe1ccf385ebc8a0
-
-abbrev minus-huge : Float
-minus-huge = ofBits binary64 0xffe1ccf385ebc8a0
-
--- from 170 on, and up to -170
-abbrev dateline : Pair
-dateline = pair (plus 170) (minus 170)
-
-abbrev outside-ten : Pair
-outside-ten = pair (plus 10) (minus 10)
-
-abbrev kinds : List Case
-kinds =
-    case (flag (Ordinary.meets nothing everything)) (flag true)
-    ∷ case (flag (Wraparound.meets nothing everything)) (flag true)
-    ∷ case (flag (Wraparound.contains outside-ten (pair (minus 30) (minus 20)))) (flag true)
-    ∷ case (flag (Wraparound.contains outside-ten (pair (plus 20) (plus 30)))) (flag true)
-    ∷ case (flag (Wraparound.contains everything outside-ten)) (flag true)
-    ∷ case (bounds (Wraparound.withValue dateline (plus 0))) (bounds (pair (plus 0) (minus 170)))
-    ∷ case (bounds (Wraparound.merged dateline (pair (plus 100) (plus 120)))) (bounds (pair (plus 100) (minus 170)))
-    ∷ case (bounds (Wraparound.merged dateline (pair (inf true) (minus 200)))) (bounds dateline)
-    ∷ case (number (Ordinary.middle (pair minus-huge huge))) (number (plus 0))
-    ∷ case (number (Wraparound.middle (pair minus-huge huge))) (number (plus 0))
-    ∷ case (bounds (Wraparound.expanded dateline (plus 169))) (bounds (pair (plus 1) (minus 1)))
-    ∷ case (bounds (Wraparound.expanded dateline (plus 170))) (bounds everything)
-    ∷ []
+abbrev cases : List Case
+cases = kinds ++ shapes ++ bounder
 
 abbrev pub told : List Answer
-told = map (λ c. c .told) kinds
+told = map (λ c. c .told) cases
 
 abbrev pub wanted : List Answer
-wanted = map (λ c. c .wanted) kinds
+wanted = map (λ c. c .wanted) cases

@@ -5,4 +5,3 @@ pub mod Tree
 pub mod Source
 pub mod Pending
 pub mod Steps
-pub mod Examples

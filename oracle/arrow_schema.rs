@@ -1,6 +1,7 @@
-//! A stand-in for the one type that interval.rs imports from the crate `arrow_schema`.
+//! A stand-in for the one type that interval.rs and bounding.rs import from the crate `arrow_schema`.
 
 #[derive(Debug)]
 pub enum ArrowError {
+    ExternalError(Box<dyn std::error::Error + Send + Sync>),
     InvalidArgumentError(String),
 }

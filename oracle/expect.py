@@ -1,14 +1,16 @@
 #!/usr/bin/env python3
-"""Writes what `pagebook` must write for a script of questions to a pair, without asking it.
+"""Writes what `pagebook` must write for a script, without asking it.
 
-An answer is the original Rust's, or that of the rule in rule.py where we are meant to differ and
-for `take`, which the Rust lacks. Numbers are written by the Rust.
+The answer to a question to a pair is the original Rust's, or that of the rule in rule.py where we
+are meant to differ and for `take`, which the Rust lacks. Numbers are written by the Rust. The other
+answers come from expect_shapes.py.
 """
 
 import pathlib
 import sys
 import tempfile
 
+import expect_shapes
 import programs
 import questions
 import rule
@@ -23,8 +25,10 @@ def value(text):
     return questions.of_bits(int(text, 16)) if text.startswith("0x") else float(text)
 
 
-def asked_of_rust(line):
+def asked_of_rust(line, bounder):
     """The line whose answer by the Rust is the answer wanted, or the answer itself."""
+    if not line.split()[0] == "interval":
+        return None, bounder.answer(line.split())
     put = question(line)
     kind, function, values = put
     if function == "take":
@@ -47,7 +51,8 @@ def expected(oracle, script):
         for number, line in enumerate(script, 1)
         if line.split() and not line.split()[0].startswith("#")
     }
-    asked = {number: asked_of_rust(line) for number, line in commands.items()}
+    bounder = expect_shapes.Bounder()
+    asked = {number: asked_of_rust(line, bounder) for number, line in commands.items()}
     told = iter(programs.rust(oracle, [line for line, _ in asked.values() if line]))
     answers = [known if line is None else next(told) for line, known in asked.values()]
     lines = [f"{number}: {answer}" for number, answer in zip(commands, answers)]

@@ -1,9 +1,11 @@
-//! Answers the questions to a pair of a `pagebook` script with the original interval.rs.
+//! Answers a `pagebook` script with the original interval.rs and bounding.rs.
 //!
-//! It reads lines `interval KIND FUNCTION ARGUMENTS` from standard input and writes `N: ANSWER`
-//! for each, as `pagebook` does. `take`, which the original lacks, is not answered. A line that
-//! it cannot read ends the run with status 1.
+//! It reads lines `interval KIND FUNCTION ARGUMENTS`, `bounder`, `bounder LO HI`, `count shape HEX`
+//! and `bounds` from standard input and writes `N: ANSWER` for each, as `pagebook` does. `take`,
+//! which the original lacks, is not answered. A line that it cannot read ends the run with status 1.
 
+mod bounder;
+mod bounding;
 #[allow(dead_code)]
 mod interval;
 
@@ -13,13 +15,14 @@ use std::process::ExitCode;
 
 fn main() -> ExitCode {
     let mut out = BufWriter::with_capacity(1 << 20, io::stdout().lock());
+    let mut state = bounder::State::default();
     for (index, line) in io::stdin().lock().lines().enumerate() {
         let line = line.expect("standard input is text");
         let number = index + 1;
         if line.trim().is_empty() || line.starts_with('#') {
             continue;
         }
-        match answer(&line) {
+        match answer(&mut state, &line) {
             Some(text) => writeln!(out, "{number}: {text}").expect("standard output is open"),
             None => {
                 out.flush().expect("standard output is open");
@@ -32,14 +35,13 @@ fn main() -> ExitCode {
     ExitCode::SUCCESS
 }
 
-fn answer(line: &str) -> Option<String> {
-    let mut words = line.split_ascii_whitespace();
-    if words.next()? != "interval" {
-        return None;
-    }
-    let kind = words.next()?;
-    let function = words.next()?;
-    let values = words.map(number).collect::<Option<Vec<f64>>>()?;
+fn answer(state: &mut bounder::State, line: &str) -> Option<String> {
+    let words: Vec<&str> = line.split_ascii_whitespace().collect();
+    let ["interval", kind, function, arguments @ ..] = words.as_slice() else {
+        return state.answer(&words);
+    };
+    let (kind, function) = (*kind, *function);
+    let values = arguments.iter().map(|word| number(word)).collect::<Option<Vec<f64>>>()?;
     match (kind, function) {
         ("ordinary", _) => ask::<Interval>(function, &values),
         ("wraparound", "to_ordinary") => to_ordinary(&values),

@@ -11,14 +11,16 @@ PAGEBOOK = ROOT / "target" / "bin" / "pagebook"
 
 
 def build(folder):
-    """Compiles the oracle into the folder and answers the program's path."""
-    rustc = ["rustc", "--edition", "2021", "-O"]
-    stand_in = folder / "libarrow_schema.rlib"
+    """Compiles the stand-ins and the oracle into the folder and answers the program's path."""
+    rustc = ["rustc", "--edition", "2021", "-O", "-L", folder]
+    built = []
+    for name in ["arrow_schema", "geo_traits", "wkb"]:
+        library = folder / f"lib{name}.rlib"
+        kind = ["--crate-type", "rlib", "--crate-name", name]
+        subprocess.run([*rustc, *built, *kind, HERE / f"{name}.rs", "-o", library], check=True)
+        built += ["--extern", f"{name}={library}"]
     oracle = folder / "oracle"
-    library = ["--crate-type", "rlib", "--crate-name", "arrow_schema"]
-    subprocess.run([*rustc, *library, HERE / "arrow_schema.rs", "-o", stand_in], check=True)
-    names = ["--crate-name", "oracle", "--extern", f"arrow_schema={stand_in}"]
-    subprocess.run([*rustc, *names, HERE / "main.rs", "-o", oracle], check=True)
+    subprocess.run([*rustc, *built, HERE / "main.rs", "-o", oracle], check=True)
     return oracle
 
 
@@ -55,5 +57,5 @@ def ours(pagebook, lines):
 
 def summary(told):
     """The lines behind the answers."""
-    refused = sum(answer.startswith("refused") for answer in told)
+    refused = sum(answer.startswith(("refused", "source refused")) for answer in told)
     return ["", f"commands {len(told)}, granted {len(told) - refused}, refused {refused}"]

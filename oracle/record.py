@@ -1,9 +1,10 @@
 #!/usr/bin/env python3
 """Records answers of the original Rust, to be replayed without it.
 
-crates/recorded/stdin gets a script, edges first, and crates/recorded/stdout the Rust's own answers
-to it. Questions on which we are meant to differ are left out, and so are merges that tie zeros of
-different sign, which Rust leaves open. differences.txt gets both answers for each named difference.
+crates/recorded/stdin gets a script, questions to a pair and then lists of shapes for a bounder, and
+crates/recorded/stdout the Rust's own answers to it. Questions on which we are meant to differ are
+left out, and so are ties of zeros of different sign, which Rust leaves open. differences.txt gets
+both answers for each named difference.
 """
 
 import pathlib
@@ -13,6 +14,7 @@ import tempfile
 import expect
 import programs
 import questions
+import record_bounds
 import rule
 
 RECORDED = programs.ROOT / "crates" / "recorded"
@@ -79,33 +81,52 @@ def text(value):
 
 
 def write_record(oracle):
-    pairs = list(recorded(oracle))
-    head = "# Answers of the original Rust: the edges of every function of both kinds, then random questions."
-    script = [head, *(question for question, _ in pairs)]
-    answers = [answer for _, answer in pairs]
-    told = [f"{number}: {answer}" for number, answer in enumerate(answers, 2)]
+    """Writes the script and the answers, and gives how many answers each part has."""
+    head = "# Answers of the original Rust: {}"
+    parts = [
+        ("the edges of every function of both kinds, then random questions.", recorded(oracle)),
+        ("lists of shapes that a bounder counts.", record_bounds.recorded(oracle)),
+    ]
+    script, answers, told, sizes = [], [], [], []
+    for text, pairs in parts:
+        script.append(head.format(text))
+        before = len(answers)
+        for question, answer in pairs:
+            script.append(question)
+            answers.append(answer)
+            told.append(f"{len(script)}: {answer}")
+        sizes.append(len(answers) - before)
     (RECORDED / "stdin").write_text("\n".join(script) + "\n")
     (RECORDED / "stdout").write_text("\n".join(told + programs.summary(answers)) + "\n")
-    return len(answers)
+    return sizes
+
+
+def shown_differences(oracle):
+    """Lines for each question that shows a difference, with its name and both answers."""
+    theirs = programs.rust(oracle, DIFFERENCES)
+    ours = expect.expected(oracle, DIFFERENCES)
+    for number, (question, answer) in enumerate(zip(DIFFERENCES, theirs)):
+        name = rule.difference(expect.question(question)).name
+        yield [question], name, answer, ours[number].split(": ", 1)[1]
+    for lines, answer in record_bounds.differences(oracle):
+        mine = expect.expected(oracle, lines)[len(lines) - 1].split(": ", 1)[1]
+        yield lines, "one empty half", answer, mine
 
 
 def write_differences(oracle):
-    theirs = programs.rust(oracle, DIFFERENCES)
-    ours = expect.expected(oracle, DIFFERENCES)
     lines = ["# Each named difference, with the answer of the original Rust and ours.", ""]
-    for number, (question, answer) in enumerate(zip(DIFFERENCES, theirs)):
-        name = rule.difference(expect.question(question)).name
-        mine = ours[number].split(": ", 1)[1]
+    for questions_put, name, answer, mine in shown_differences(oracle):
         if answer == mine:
-            raise SystemExit(f"{question} shows no difference")
-        lines += [f"{question}", f"    {name}: Rust {answer}, ours {mine}"]
+            raise SystemExit(f"{questions_put[-1]} shows no difference")
+        lines += [*questions_put, f"    {name}: Rust {answer}, ours {mine}"]
     (programs.HERE / "differences.txt").write_text("\n".join(lines) + "\n")
 
 
 def main():
     with tempfile.TemporaryDirectory() as folder:
         oracle = programs.build(pathlib.Path(folder))
-        print(f"recorded {write_record(oracle)} answers")
+        pairs, bounder = write_record(oracle)
+        print(f"recorded {pairs} answers on pairs and {bounder} of a bounder")
         write_differences(oracle)
 
 

@@ -101,7 +101,7 @@ gather-good f p (r ∷ rs) = go (p (hull f r)) (run-find f r) (gather-good f p r
     go true (inl n) k =
         subst (λ (e : Pair). (empty e ≡ true) ⊎ T (le (e .lo) (e .hi))) (sym (ap (λ (e : Pair). merged e (gather f p rs)) (hull-none f r n) ∙ nothing-merged (gather f p rs) (gather-plain f p rs))) k
 
-gather-upright : (f : Axis) (p : Pair → Bool) (rs : List Run) → empty (gather f p rs) ≡ false → T (le (gather f p rs .lo) (gather f p rs .hi))
+pub gather-upright : (f : Axis) (p : Pair → Bool) (rs : List Run) → empty (gather f p rs) ≡ false → T (le (gather f p rs .lo) (gather f p rs .hi))
 gather-upright f p rs e = elim (gather-good f p rs) [ inl n ↦ absurd (no true (sym n ∙ e) tt) | inr h ↦ h ]
 
 takes : (e : Pair) → Plain e → (lt (e .hi) (e .lo) && empty e) ≡ false → refusal true e ≡ None

@@ -8,11 +8,13 @@ use lib.Ieee.{Float}
 use Rattle.std.specs.declared.option.Option.{Option}
 use Rattle.std.specs.declared.option.Option.the-variants.{Some, None}
 use Rattle.interval.specs.declared.kinds.Interval.{Interval}
-use Rattle.interval.specs.Pairs.{Pair, pair, ends, nothing}
+use Rattle.interval.specs.declared.kinds.WraparoundInterval.{WraparoundInterval}
+use Rattle.interval.specs.Pairs.{Pair, pair, ends, innerEnds, nothing}
 use Rattle.interval.specs.Ordinary.{merged, withValue}
 use Rattle.shapes.specs.declared.coord.Coord.{Coord}
 use Rattle.shapes.specs.Source.{Shape}
 use Rattle.shapes.specs.Wkb.{codeAt, coordsIn, decode, read}
+use Rattle.bounding.specs.Laws.{HeldCoords}
 use Rattle.bounding.specs.Record.{Kept, recordOf, below, above, across}
 use Rattle.bounding.specs.Told.{Told}
 use Rattle.bounding.specs.declared.records.PageRecord.{PageRecord}
@@ -35,8 +37,12 @@ abbrev pub optional : Option Interval → Option Pair
 optional None = None
 optional (Some i) = Some (ends i)
 
+abbrev pub optionalInner : Option WraparoundInterval → Option Pair
+optionalInner None = None
+optionalInner (Some w) = Some (innerEnds w)
+
 abbrev pub answer : Answer → Told
-answer a = record { x = optional (a .x); y = optional (a .y); z = optional (a .z); m = optional (a .m); codes = a .codes .bits }
+answer a = record { x = optionalInner (a .x); y = optional (a .y); z = optional (a .z); m = optional (a .m); codes = a .codes .bits }
 
 -- what a bounder with the hint h keeps, once it has been given one shape more
 abbrev pub Adds : Pair → Kept → Shape → Kept → Type 0
@@ -44,7 +50,7 @@ Adds h k s l = (ss : List Shape) → k ≡ recordOf h ss → l ≡ recordOf h (s
 
 -- the same for the shape that the bytes b decode to
 abbrev pub Counts : Pair → Kept → List ℕ → Kept → Type 0
-Counts h k b l = (decode b ≡ read (codeAt b) (coordsIn b)) × Adds h k (record { code = codeAt b; coords = coordsIn b }) l
+Counts h k b l = (decode b ≡ read (codeAt b) (coordsIn b)) × Adds h k (record { code = codeAt b; coords = coordsIn b }) l × HeldCoords (coordsIn b)
 
 -- ---- the walk
 

@@ -160,9 +160,7 @@ impl CountingBounder {
     pub fn x(&self) -> WraparoundInterval
         ensures { λ r. ⌜ innerEnds r ≡ Told.toldX (ends (now (self .entry) .hint)) (kept (now (self .entry) .kept)) ⌝ }
     {
-        WraparoundInterval {
-            inner: self.kept.x(&self.hint),
-        }
+        self.kept.x(&self.hint)
     }
 
     pub fn y(&self) -> Interval

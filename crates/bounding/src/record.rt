@@ -20,8 +20,9 @@
 ghost use mathlib.Core.Bool.{cond};
 ghost use mathlib.Core.List.{[]};
 ghost use mathlib.Core.Path.{_≡_};
+ghost use Rattle.std.specs.declared.option.Option.the-variants.{None, Some};
 ghost use Rattle.interval.specs.Ordinary.{merged};
-ghost use Rattle.interval.specs.Pairs.{ends};
+ghost use Rattle.interval.specs.Pairs.{empty, ends, innerEnds};
 ghost use Rattle.bounding.specs.Laws.{Tells, Together};
 ghost use Rattle.bounding.specs.Record as Record;
 ghost use Rattle.bounding.specs.Told as Told;
@@ -34,6 +35,7 @@ use crate::records::PageRecord;
 use interval::Interval;
 use interval::IntervalBounds;
 use interval::IntervalTrait;
+use interval::WraparoundInterval;
 use shapes::Coord;
 
 impl Hulls {
@@ -73,11 +75,11 @@ fn merge_if(test: bool, bounds: &Interval, hull: &Interval) -> Interval
     }
 }
 
-// An axis's bounds, unless these others have no values.
-fn shown(bounds: &Interval, told: &Interval) -> Option<Interval>
-    ensures { λ r. ⌜ Walk.optional r ≡ Told.shown (ends (now (bounds .entry))) (ends (now (told .entry))) ⌝ }
+// What is told of an axis, unless its bounds have no values.
+fn shown<T: Copy>(bounds: &Interval, told: T) -> Option<T>
+    ensures { λ r. ⌜ r ≡ cond (empty (ends (now (bounds .entry)))) None (Some told) ⌝ }
 {
-    if bounds.is_empty() { None } else { Some(*told) }
+    if bounds.is_empty() { None } else { Some(told) }
 }
 
 impl PageRecord {
@@ -152,17 +154,18 @@ impl PageRecord {
     }
 
     // The pair that is told of x: lo above hi where it wraps.
-    pub fn x(&self, hint: &Interval) -> Interval
-        ensures { λ r. ⌜ ends r ≡ Told.toldX (ends (now (hint .entry))) (kept (now (self .entry))) ⌝ }
+    pub fn x(&self, hint: &Interval) -> WraparoundInterval
+        ensures { λ r. ⌜ innerEnds r ≡ Told.toldX (ends (now (hint .entry))) (kept (now (self .entry))) ⌝ }
     {
-        if self.ordinary(hint) {
+        let inner = if self.ordinary(hint) {
             self.all()
         } else {
             Interval {
                 lo: self.x_right.lo,
                 hi: self.x_left.hi,
             }
-        }
+        };
+        WraparoundInterval { inner }
     }
 
     // What is told of the record under a hint.
@@ -173,10 +176,10 @@ impl PageRecord {
         let all = self.all();
         let x = self.x(hint);
         Answer {
-            x: shown(&all, &x),
-            y: shown(&self.y, &self.y),
-            z: shown(&self.z, &self.z),
-            m: shown(&self.m, &self.m),
+            x: shown(&all, x),
+            y: shown(&self.y, self.y),
+            z: shown(&self.z, self.z),
+            m: shown(&self.m, self.m),
             codes: self.codes,
         }
     }

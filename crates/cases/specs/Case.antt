@@ -5,6 +5,7 @@ use mathlib.Core.List.{List}
 use lib.IntN.{pos, negsuc}
 use lib.Ieee.{Float, binary64, ofInt}
 use Rattle.std.specs.declared.option.Option.{Option}
+use Rattle.interval.specs.declared.fault.Fault.{Fault}
 use Rattle.interval.specs.Pairs.{Pair}
 use Rattle.shapes.specs.Wkb.{Decoded}
 
@@ -15,6 +16,7 @@ pub data Answer : Type 0 where
   axis : Option Pair → Answer
   decoded : Decoded → Answer
   bytes : List ℕ → Answer
+  refused : Option Fault → Answer
 
 pub record Case : Type 0 where
   pub told : Answer

@@ -5,7 +5,11 @@ use lib.Ieee.{Float, inf, binary64, ofBits}
 use Rattle.interval.specs.Pairs.{Pair, pair, nothing, everything}
 use Rattle.interval.specs.Ordinary as Ordinary
 use Rattle.interval.specs.Wraparound as Wraparound
-use Rattle.cases.specs.Case.{Case, case, flag, number, bounds, plus, minus}
+use Rattle.std.specs.declared.option.Option.the-variants.{None, Some}
+use Rattle.interval.specs.declared.fault.Cause.the-variants.{Downward}
+use Rattle.interval.specs.Faults.{at}
+use Rattle.interval.specs.Laws.{refusal}
+use Rattle.cases.specs.Case.{Case, case, flag, number, bounds, refused, plus, minus}
 
 -- 1e308
 abbrev huge : Float
@@ -35,4 +39,7 @@ kinds =
     ∷ case (number (Wraparound.middle (pair minus-huge huge))) (number (plus 0))
     ∷ case (bounds (Wraparound.expanded dateline (plus 169))) (bounds (pair (plus 1) (minus 1)))
     ∷ case (bounds (Wraparound.expanded dateline (plus 170))) (bounds everything)
+    ∷ case (flag (Wraparound.meets (pair (plus 179) (minus 179)) (pair (plus 0) (plus 10)))) (flag false)
+    ∷ case (refused (refusal true (pair (plus 179) (minus 179)))) (refused None)
+    ∷ case (refused (refusal false (pair (plus 179) (minus 179)))) (refused (Some (at Downward 0)))
     ∷ []

@@ -82,7 +82,7 @@ fn answer_line<W: Write>(
     line: &str,
     out: &mut W,
 ) -> io::Result<bool> {
-    match session.answer(line) {
+    match session.answer(rt.alloc(), line) {
         Ok(Some(answer)) => writeln!(out, "{number}: {answer}")?,
         Ok(None) => {}
         Err(wrong) => return stop_at(rt, number, wrong, out),

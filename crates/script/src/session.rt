@@ -1,10 +1,14 @@
 // A script as it runs: what its commands work on, and what they were answered.
 ghost use mathlib.Core.Path.{_≡_};
-ghost use Rattle.script.specs.Tallies.{counted, Counted};
+ghost use Rattle.script.specs.Tallies.{counted, Tallied};
 use crate::answer::Answer;
+use crate::bounder;
 use crate::line::Words;
 use crate::pairs;
+use crate::sources;
 use crate::wrong::Wrong;
+use bounding::CountingBounder;
+use std::alloc::Global;
 use std::fmt;
 
 // How many commands were answered, and how.
@@ -50,6 +54,7 @@ impl fmt::Display for Tally as TallyDisplay {
 #[derive(Drop)]
 pub struct Session {
     tally: Tally,
+    bounder: Option<CountingBounder>,
 }
 
 impl Session {
@@ -58,12 +63,13 @@ impl Session {
     {
         Session {
             tally: Tally::new(),
+            bounder: None,
         }
     }
 
     // The answer to a line's command. A blank line or a comment has none.
-    pub fn answer<'a>(&mut self, line: &'a str) -> Result<Option<Answer>, Wrong<'a>>
-        ensures { λ r. ⌜ Counted (now (self .entry) .tally) r (now (self .exit) .tally) ⌝ }
+    pub fn answer<'a>(&mut self, heap: Global, line: &'a str) -> Result<Option<Answer>, Wrong<'a>>
+        ensures { λ r. ⌜ Tallied (now (self .entry) .tally) r (now (self .exit) .tally) ⌝ }
     {
         let mut words = Words::of(line);
         let Some(command) = words.next() else {
@@ -72,16 +78,27 @@ impl Session {
         if command.starts_with('#') {
             return Ok(None);
         }
-        let answer = obey(command, &mut words)?;
+        let answer = self.obey(heap, command, &mut words)?;
         self.tally.count(answer.is_refused());
         Ok(Some(answer))
     }
-}
 
-fn obey<'a>(command: &'a str, words: &mut Words<'a>) -> Result<Answer, Wrong<'a>> {
-    match command {
-        "interval" => pairs::obey(words),
-        _ => Err(Wrong::UnknownCommand(command)),
+    fn obey<'a>(
+        &mut self,
+        heap: Global,
+        command: &'a str,
+        words: &mut Words<'a>,
+    ) -> Result<Answer, Wrong<'a>>
+        ensures { λ _. ⌜ now (self .exit) .tally ≡ now (self .entry) .tally ⌝ }
+    {
+        match command {
+            "interval" => pairs::obey(words),
+            "shape" | "swapped" | "table" => sources::obey(heap, command, words),
+            "bounder" | "count" | "bounds" => {
+                bounder::obey(heap, command, &mut self.bounder, words)
+            }
+            _ => Err(Wrong::UnknownCommand(command)),
+        }
     }
 }
 

@@ -99,8 +99,9 @@ pub fn check(bytes: &[u8]) -> Result<Checked<'_>, Fault>
 {
     let total = bytes.len();
     let rest = check_shape(bytes, total, LEVELS, None)?;
-    if rest.len() > 0 {
-        return Err(Fault::new(Cause::TrailingBytes, total - rest.len()));
+    let over = rest.len();
+    if over > 0 {
+        return Err(Fault::new(Cause::TrailingBytes, total - over));
     }
     Ok(Checked { bytes })
 }

@@ -1,3 +1,4 @@
+pub mod Bytes
 pub mod Functions
 pub mod Kinds
 pub mod Names

@@ -1,8 +1,10 @@
-// The words of the script language that name a kind of bounds, a function or a number.
+// The words of the script language that name a kind of bounds, a function, a number or bytes.
+mod bytes;
 mod function;
 mod kind;
 mod number;
 
+pub use bytes::read_bytes;
 pub use function::Function;
 pub use function::OnePair;
 pub use function::PairAndValue;

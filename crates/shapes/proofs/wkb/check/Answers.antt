@@ -21,12 +21,12 @@ returns-in-Break-rest c =
     let r = decode-fails b _ (c .in-Break-rest .ensures tt) in
     rw (p .1, p .2) (record { decoded = r; written = refused-no-writing b _ x r; exactly = x })
 
-pub returns-then-rest-gt0 : need.returns-then-rest-gt0
-returns-then-rest-gt0 c =
+pub returns-then-over-gt0 : need.returns-then-over-gt0
+returns-then-over-gt0 c =
     let b : List ℕ = c .args .bytes .now in
     let hb : Bytes b = all-from-getD (λ n. n < 256) b 0 (λ i _. omega (arith, c .typed .bytes i)) in
     let x : ReadExactly b = read-exactly b hb in
-    let r = decode-trails b (c .in-Continue-rest .rest .now) _ (c .in-Continue-rest .ensures tt .1) (c .if-rest-gt0 .taken) (c .new .ensures) in
+    let r = decode-trails b (c .in-Continue-rest .rest .now) _ (c .in-Continue-rest .ensures tt .1) (c .if-over-gt0 .taken) (c .new .ensures) in
     record { decoded = r; written = refused-no-writing b _ x r; exactly = x }
 
 pub returns : need.returns

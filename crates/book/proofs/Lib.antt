@@ -1,0 +1,4 @@
+pub mod Promised
+pub mod Moves
+pub mod Judged
+pub mod Turns

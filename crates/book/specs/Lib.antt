@@ -1,0 +1,9 @@
+pub mod Room
+pub mod Standing
+pub mod Windows
+pub mod Promises
+pub mod Keeping
+pub mod Answers
+pub mod Verdicts
+pub mod Replay
+pub mod Replied

@@ -1,4 +1,6 @@
 // The page book: pages of shapes, their bounds, and windows that skip pages.
+#![tactic(auto)]
+
 mod book;
 mod calls;
 mod frame;

@@ -1,4 +1,6 @@
 // Bounds of shapes: what is kept of them, and what is told of it.
+#![tactic(auto)]
+
 mod bounder;
 mod codes;
 mod laws;

@@ -1,4 +1,6 @@
 // The worked cases.
+#![tactic(auto)]
+
 ghost use Rattle.std.specs.Prelude.{◌≡◌};
 ghost use Rattle.cases.specs.Cases.{told, wanted};
 

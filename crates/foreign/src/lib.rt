@@ -1,4 +1,6 @@
 // The library for callers in C and Rust: plain structs, statuses, and the exported functions.
+#![tactic(auto)]
+
 mod bytes;
 mod convert;
 mod pages;

@@ -1,4 +1,6 @@
 // Bounds on one axis, of two kinds, and the refusals of the whole library.
+#![tactic(auto)]
+
 mod fault;
 mod interval_trait;
 mod kinds;

@@ -1,4 +1,6 @@
 // The order and the rounding of f64, proved once for the crates above.
+#![tactic(auto)]
+
 ghost use Rattle.std.specs.Prelude.{◌≡◌};
 ghost use Rattle.number.specs.Laws.{Alike, Largest, Lowest, Ordered, Rounded, Smallest};
 ghost use Rattle.number.specs.Values as Values;

@@ -1,4 +1,6 @@
 // The script language of the program `pagebook`: reading its commands, asking the library and writing the answers.
+#![tactic(auto)]
+
 mod answer;
 mod bounder;
 mod line;

@@ -1,4 +1,6 @@
 // Shapes: what their bytes hold, and the sources that give their coordinates one after another.
+#![tactic(auto)]
+
 mod code;
 mod columns;
 mod coord;

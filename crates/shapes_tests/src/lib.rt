@@ -1,4 +1,6 @@
 // Runs of shapes at the depth limit and of each source.
+#![tactic(auto)]
+
 #[cfg(test)]
 mod tests {
     use shapes::{Coord, Cursor, ShapeSource, Swapped, Table, check};

@@ -1,4 +1,6 @@
 // The words of the script language that name a kind of bounds, a function, a number or bytes.
+#![tactic(auto)]
+
 mod bytes;
 mod function;
 mod kind;

@@ -12,12 +12,12 @@ returns-in-None c =
     let w = c.args.word.now in
     let plain : w ≡ codes "-" → ⊥ = search rules in
     let short : c.loop-at.at < length w / 2 = search rules in
-    let same : c.as-bytes-digits.result.now ≡ w = c.as-bytes-digits.ensures.value in
+    let same : c.as_bytes-digits.result.now ≡ w = c.as_bytes-digits.ensures.value in
     no_bytes w c.loop-at.at plain short (subst (λ (ds : List ℕ). (b : ℕ) → TwoDigits (get_or ds (2 * c.loop-at.at) 0) (get_or ds (2 * c.loop-at.at + 1) 0) b → ⊥) same c.in-None.ensures)
 
 pub loop-at-preserved : goal.loop-at-preserved
 loop-at-preserved c =
-    let ds = c.as-bytes-digits.result.now in
+    let ds = c.as_bytes-digits.result.now in
     let xs = vec_items c.loop-at.found in
     let b = c.in-Some.b in
-    subst (Front ds (c.loop-at.at + 1)) (sym c.in-ok-push.ensures.items) (front_more ds c.loop-at.at xs b c.loop-at.invariant c.in-Some.ensures)
+    subst (Front ds (c.loop-at.at + 1)) (sym c.in_ok-push-in-Some.ensures.items) (front_more ds c.loop-at.at xs b c.loop-at.invariant c.in-Some.ensures)

@@ -18,7 +18,7 @@
 // Changed: ported to Rattle from src/interval.rs of parquet-geospatial 60.0.0. `mid` differs where the width overflows; `take`, `same`
 // and the contracts are added.
 ghost use Rattle.std.specs.Prelude.{◌≡◌, false, IfOk};
-ghost use Rattle.std.specs.Float.{binary64};
+ghost use Rattle.std.specs.Float.{binary64, float_max, float_min};
 ghost use Rattle.std.specs.Float.Ieee.{of_int};
 ghost use Rattle.interval.specs.Laws.{Adds, Contains, Everything, Expands, Meets, Merges, Nothing, Spans, Taken};
 ghost use Rattle.interval.specs.Ordinary as Ordinary;
@@ -29,21 +29,35 @@ use crate::fault::{Cause, Fault};
 use crate::interval_trait::IntervalTrait;
 use crate::kinds::Interval;
 
+// The lesser of two, or the one that is no NaN. Of equal ones, as 0 and -0, it is the first, where `f64::min` may answer either.
+pub(crate) fn least(x: f64, y: f64) -> f64
+    ensures { result ≡ float_min x y }
+{
+    if (x <= y) | y.is_nan() { x } else { y }
+}
+
+// The greater of two, or the one that is no NaN. Of equal ones it is the first.
+pub(crate) fn most(x: f64, y: f64) -> f64
+    ensures { result ≡ float_max x y }
+{
+    if (y <= x) | y.is_nan() { x } else { y }
+}
+
 impl Interval {
     // Widens these bounds to hold the others too. A NaN end is ignored.
     pub fn update_interval(&mut self, other: &Self)
         ensures { ends self.new ≡ Ordinary.merged (ends self.old) (ends other.now) }
     {
-        self.lo = self.lo.min(other.lo);
-        self.hi = self.hi.max(other.hi);
+        self.lo = least(self.lo, other.lo);
+        self.hi = most(self.hi, other.hi);
     }
 
     // Widens these bounds to hold the value too. A NaN is ignored.
     pub fn update_value(&mut self, value: f64)
         ensures { ends self.new ≡ Ordinary.with_value (ends self.old) value }
     {
-        self.lo = self.lo.min(value);
-        self.hi = self.hi.max(value);
+        self.lo = least(self.lo, value);
+        self.hi = most(self.hi, value);
     }
 
     // Equal bounds: end by end as numbers, or both NaN.

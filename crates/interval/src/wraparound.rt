@@ -29,6 +29,7 @@ ghost use Rattle.interval.specs.Wraparound as Wraparound;
 use crate::fault::{Cause, Fault};
 use crate::interval_trait::IntervalTrait;
 use crate::kinds::{Interval, WraparoundInterval};
+use crate::ordinary::{least, most};
 
 impl WraparoundInterval {
     // Equal bounds: end by end as numbers, or both NaN.
@@ -100,9 +101,9 @@ fn widened(wrapping: &Interval, other: &Interval) -> WraparoundInterval
     ensures { inner_ends result ≡ Wraparound.widened (ends wrapping.now) (ends other.now) }
 {
     if widens_lower(wrapping, other) {
-        closed(wrapping.lo, wrapping.hi.max(other.hi))
+        closed(wrapping.lo, most(wrapping.hi, other.hi))
     } else {
-        closed(wrapping.lo.min(other.lo), wrapping.hi)
+        closed(least(wrapping.lo, other.lo), wrapping.hi)
     }
 }
 
@@ -283,8 +284,8 @@ impl IntervalTrait for WraparoundInterval {
         }
         match (self.is_wraparound(), other.is_wraparound()) {
             (true, true) => closed(
-                self.inner.lo.min(other.inner.lo),
-                self.inner.hi.max(other.inner.hi),
+                least(self.inner.lo, other.inner.lo),
+                most(self.inner.hi, other.inner.hi),
             ),
             (true, false) => widened(&self.inner, &other.inner),
             (false, true) => widened(&other.inner, &self.inner),

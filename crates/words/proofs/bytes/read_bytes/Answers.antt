@@ -5,7 +5,7 @@ use Rattle.words.proofs.Fronts.{Front, front_more, no_bytes}
 use Rattle.words.proofs.bytes.read_bytes.Goals as goal
 
 pub returns-in-err-push : goal.returns-in-err-push
-returns-in-err-push c = let p = err_from_is_err_and c.from-residual.result c.from-residual.ensures.1 in rw p.1 tt
+returns-in-err-push c = let p = err_from_is_err_and c.from_residual.result c.from_residual.ensures.1 in rw p.1 tt
 
 pub returns-in-None : goal.returns-in-None
 returns-in-None c =

@@ -8,9 +8,9 @@ use Rattle.interval.proofs.Literals.{zero_bits}
 use Rattle.interval.proofs.Between.{moves}
 use Rattle.interval.proofs.ordinary.IntervalIntervalTrait.expand_by.Goals as goal
 
-pub returns-then-is-empty-is-nan : goal.returns-then-is-empty-is-nan
+pub returns-then-is_empty-is_nan : goal.returns-then-is_empty-is_nan
 unfolding expanded
-returns-then-is-empty-is-nan c =
+returns-then-is_empty-is_nan c =
     let u : unmoved (ends c.args.self.now) c.args.distance ≡ true = grind (arith, zero_bits) in
     record { law = λ f v V h. h; exact = rw u }
 

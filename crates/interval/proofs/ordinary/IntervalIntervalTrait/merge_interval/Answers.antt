@@ -7,5 +7,5 @@ pub returns : goal.returns
 returns c =
     let s = c.args.self.now in
     let o = c.args.other.now in
-    let e = c.update-interval.ensures in
+    let e = c.update_interval.ensures in
     record { law = rw e (merges (ends s) (ends o) s.held o.held); exact = e }

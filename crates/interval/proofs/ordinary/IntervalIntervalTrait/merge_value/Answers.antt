@@ -9,5 +9,5 @@ returns c =
     let s = c.args.self.now in
     let v = c.args.value in
     let h : Held v = search rules in
-    let e = c.update-value.ensures in
+    let e = c.update_value.ensures in
     record { law = rw e (adds (ends s) v s.held h); exact = e }

@@ -3,10 +3,10 @@ use Rattle.interval.specs.Ordinary.{middle}
 use Rattle.interval.proofs.Literals.{highest-bits, two_bits}
 use Rattle.interval.proofs.ordinary.IntervalIntervalTrait.mid.Goals as goal
 
-pub returns-then-is-finite-width : goal.returns-then-is-finite-width
+pub returns-then-is_finite-width : goal.returns-then-is_finite-width
 unfolding middle
-returns-then-is-finite-width c = grind (arith, highest-bits, two_bits)
+returns-then-is_finite-width c = grind (arith, highest-bits, two_bits)
 
-pub returns-else-is-finite-width : goal.returns-else-is-finite-width
+pub returns-else-is_finite-width : goal.returns-else-is_finite-width
 unfolding middle
-returns-else-is-finite-width c = grind (arith, highest-bits, two_bits)
+returns-else-is_finite-width c = grind (arith, highest-bits, two_bits)

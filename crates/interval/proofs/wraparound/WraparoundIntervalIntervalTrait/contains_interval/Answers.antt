@@ -11,7 +11,7 @@ unfolding contains
 returns-in-true-true c =
     let s = c.args.self.now in
     let o = c.args.other.now in
-    let e : c.contains-interval.result ≡ contains (inner_ends s) (inner_ends o) = grind arith in
+    let e : c.contains_interval.result ≡ contains (inner_ends s) (inner_ends o) = grind arith in
     record { law = contains-at (inner_ends s) (inner_ends o) _ s.inner.held o.inner.held e; exact = e }
 
 pub returns-in-true-false : goal.returns-in-true-false
@@ -35,5 +35,5 @@ unfolding contains
 returns-in-false-false c =
     let s = c.args.self.now in
     let o = c.args.other.now in
-    let e : c.contains-interval-in-false-false.result ≡ contains (inner_ends s) (inner_ends o) = grind arith in
+    let e : c.contains_interval-in-false-false.result ≡ contains (inner_ends s) (inner_ends o) = grind arith in
     record { law = contains-at (inner_ends s) (inner_ends o) _ s.inner.held o.inner.held e; exact = e }

@@ -7,22 +7,22 @@ use Rattle.interval.proofs.Literals.{zero_bits}
 use Rattle.interval.proofs.Covers.{expands_at}
 use Rattle.interval.proofs.wraparound.WraparoundIntervalIntervalTrait.expand_by.Goals as goal
 
-pub returns-then-is-empty-is-nan : goal.returns-then-is-empty-is-nan
+pub returns-then-is_empty-is_nan : goal.returns-then-is_empty-is_nan
 unfolding expanded
-returns-then-is-empty-is-nan c =
+returns-then-is_empty-is_nan c =
     let s = c.args.self.now in
     let d = c.args.distance in
     let h : Held d = search rules in
     let e : inner_ends (s) ≡ expanded (inner_ends s) d = grind (arith, zero_bits) in
     record { law = expands_at (inner_ends s) d _ s.inner.held h e; exact = e }
 
-pub returns-then-not-is-wraparound : goal.returns-then-not-is-wraparound
+pub returns-then-not-is_wraparound : goal.returns-then-not-is_wraparound
 unfolding expanded Ordinary.expanded
-returns-then-not-is-wraparound c =
+returns-then-not-is_wraparound c =
     let s = c.args.self.now in
     let d = c.args.distance in
     let h : Held d = search rules in
-    let e : inner_ends (record { inner = c.expand-by.result }) ≡ expanded (inner_ends s) d = grind (arith, zero_bits) in
+    let e : inner_ends (record { inner = c.expand_by.result }) ≡ expanded (inner_ends s) d = grind (arith, zero_bits) in
     record { law = expands_at (inner_ends s) d _ s.inner.held h e; exact = e }
 
 pub returns : goal.returns

@@ -12,8 +12,8 @@ returns c =
     let o = c.args.other.now in
     let a = c.split.ensures in
     let b = c.split-2.ensures in
-    let exact : (c.intersects-interval.result || c.intersects-interval-2.result || c.intersects-interval-3.result || c.intersects-interval-4.result) ≡ meets (inner_ends s) (inner_ends o) =
-    (λ i. c.intersects-interval.ensures.exact i || c.intersects-interval-2.ensures.exact i || c.intersects-interval-3.ensures.exact i || c.intersects-interval-4.ensures.exact i)
+    let exact : (c.intersects_interval.result || c.intersects_interval-2.result || c.intersects_interval-3.result || c.intersects_interval-4.result) ≡ meets (inner_ends s) (inner_ends o) =
+    (λ i. c.intersects_interval.ensures.exact i || c.intersects_interval-2.ensures.exact i || c.intersects_interval-3.ensures.exact i || c.intersects_interval-4.ensures.exact i)
     ∙ (λ i. Ordinary.meets (a.left i) (b.left i) || Ordinary.meets (a.left i) (b.right i) || Ordinary.meets (a.right i) (b.left i) || Ordinary.meets (a.right i) (b.right i)) in
     record {
       law = record {

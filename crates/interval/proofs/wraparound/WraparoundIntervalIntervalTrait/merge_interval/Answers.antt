@@ -4,17 +4,17 @@ use Rattle.interval.specs.Wraparound.{merged}
 use Rattle.interval.proofs.Covers.{merges_at}
 use Rattle.interval.proofs.wraparound.WraparoundIntervalIntervalTrait.merge_interval.Goals as goal
 
-pub returns-then-is-empty : goal.returns-then-is-empty
+pub returns-then-is_empty : goal.returns-then-is_empty
 unfolding merged
-returns-then-is-empty c =
+returns-then-is_empty c =
     let s = c.args.self.now in
     let o = c.args.other.now in
     let e : inner_ends (o) ≡ merged (inner_ends s) (inner_ends o) = grind arith in
     record { law = merges_at (inner_ends s) (inner_ends o) _ s.inner.held o.inner.held e; exact = e }
 
-pub returns-then-is-empty-2 : goal.returns-then-is-empty-2
+pub returns-then-is_empty-2 : goal.returns-then-is_empty-2
 unfolding merged
-returns-then-is-empty-2 c =
+returns-then-is_empty-2 c =
     let s = c.args.self.now in
     let o = c.args.other.now in
     let e : inner_ends (s) ≡ merged (inner_ends s) (inner_ends o) = grind arith in
@@ -49,5 +49,5 @@ unfolding merged
 returns-in-false-false c =
     let s = c.args.self.now in
     let o = c.args.other.now in
-    let e : inner_ends (record { inner = c.merge-interval.result }) ≡ merged (inner_ends s) (inner_ends o) = grind arith in
+    let e : inner_ends (record { inner = c.merge_interval.result }) ≡ merged (inner_ends s) (inner_ends o) = grind arith in
     record { law = merges_at (inner_ends s) (inner_ends o) _ s.inner.held o.inner.held e; exact = e }

@@ -5,22 +5,22 @@ use Rattle.interval.specs.Wraparound.{with_value}
 use Rattle.interval.proofs.Covers.{adds_at}
 use Rattle.interval.proofs.wraparound.WraparoundIntervalIntervalTrait.merge_value.Goals as goal
 
-pub returns-then-intersects-value-is-nan : goal.returns-then-intersects-value-is-nan
+pub returns-then-intersects_value-is_nan : goal.returns-then-intersects_value-is_nan
 unfolding with_value
-returns-then-intersects-value-is-nan c =
+returns-then-intersects_value-is_nan c =
     let s = c.args.self.now in
     let v = c.args.value in
     let h : Held v = search rules in
     let e : pair s.inner.lo s.inner.hi ≡ with_value (inner_ends s) v = grind arith in
     record { law = adds_at (inner_ends s) v _ s.inner.held h e; exact = e }
 
-pub returns-then-not-is-wraparound : goal.returns-then-not-is-wraparound
+pub returns-then-not-is_wraparound : goal.returns-then-not-is_wraparound
 unfolding with_value
-returns-then-not-is-wraparound c =
+returns-then-not-is_wraparound c =
     let s = c.args.self.now in
     let v = c.args.value in
     let h : Held v = search rules in
-    let e : pair c.merge-value.result.lo c.merge-value.result.hi ≡ with_value (inner_ends s) v = grind arith in
+    let e : pair c.merge_value.result.lo c.merge_value.result.hi ≡ with_value (inner_ends s) v = grind arith in
     record { law = adds_at (inner_ends s) v _ s.inner.held h e; exact = e }
 
 pub returns-then-value-self : goal.returns-then-value-self

@@ -3,9 +3,9 @@ use Rattle.interval.specs.Wraparound.{middle}
 use Rattle.interval.proofs.Literals.{highest-bits}
 use Rattle.interval.proofs.wraparound.WraparoundIntervalIntervalTrait.mid.Goals as goal
 
-pub returns-then-not-is-wraparound : goal.returns-then-not-is-wraparound
+pub returns-then-not-is_wraparound : goal.returns-then-not-is_wraparound
 unfolding middle
-returns-then-not-is-wraparound c = grind arith
+returns-then-not-is_wraparound c = grind arith
 
 pub returns : goal.returns
 unfolding middle

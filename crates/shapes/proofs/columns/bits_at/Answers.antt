@@ -11,7 +11,7 @@ there Big b at = simp (get_or-drop, add-zero)
 there Little b at = simp (get_or-drop, add-zero)
 
 pub returns-then-big : goal.returns-then-big
-returns-then-big c = c.from-be-bytes.ensures ∙ there Big c.args.b.now c.args.at ∙ ap (λ (z : Bool). u64_at (order_in z) (drop c.args.at c.args.b.now)) (sym c.if-big.true)
+returns-then-big c = c.from_be_bytes.ensures ∙ there Big c.args.b.now c.args.at ∙ ap (λ (z : Bool). u64_at (order_in z) (drop c.args.at c.args.b.now)) (sym c.if-big.true)
 
 pub returns-else-big : goal.returns-else-big
-returns-else-big c = c.from-le-bytes.ensures ∙ there Little c.args.b.now c.args.at ∙ ap (λ (z : Bool). u64_at (order_in z) (drop c.args.at c.args.b.now)) (sym c.if-big.false)
+returns-else-big c = c.from_le_bytes.ensures ∙ there Little c.args.b.now c.args.at ∙ ap (λ (z : Bool). u64_at (order_in z) (drop c.args.at c.args.b.now)) (sym c.if-big.false)

@@ -5,8 +5,8 @@ use Rattle.shapes.proofs.cursor.points_there.Goals as goal
 fewer : (len size n : ℕ) → 0 < size → len < n * size → len / size < n
 fewer len size n s h = (div-lt_iff_lt-mul {k = size} s).1 h
 
-pub overflow-cast-result : goal.overflow-cast-result
-overflow-cast-result c =
+pub overflow_cast-result : goal.overflow_cast-result
+overflow_cast-result c =
     let s : 0 < c.args.size = omega arith in
     let h : c.args.len / c.args.size < c.args.n = fewer c.args.len c.args.size c.args.n s c.if-n-size.false in
     omega arith

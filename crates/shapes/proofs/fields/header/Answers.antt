@@ -6,22 +6,22 @@ use Rattle.shapes.specs.Numbers.{u32_at}
 use Rattle.shapes.proofs.Reading.{header-empty, header-order, header-cut, header-code, header-misfit, header-there, stops_first, stops_second, order_some, order_none, u32_list_1, code-at}
 use Rattle.shapes.proofs.fields.header.Goals as goal
 
-pub returns-in-default : goal.returns-in-default
-returns-in-default c =
+pub returns-in_default : goal.returns-in_default
+returns-in_default c =
     let b = c.args.bytes.now in
     let h : 1 ≤ length b = search rules in
-    stops_first c.args.total c.args.outer b _ ByteOrder c.new-in-default.ensures (λ f. header-order c.args.outer b f h (sym c.from-byte.ensures ∙ c.in-default.is))
+    stops_first c.args.total c.args.outer b _ ByteOrder c.new-in_default.ensures (λ f. header-order c.args.outer b f h (sym c.from_byte.ensures ∙ c.in_default.is))
 
-pub returns-in-default-from-number : goal.returns-in-default-from-number
-returns-in-default-from-number c =
+pub returns-in_default-from_number : goal.returns-in_default-from_number
+returns-in_default-from_number c =
     let b = c.args.bytes.now in
     let h : 1 ≤ length b = search rules in
     let h5 : 5 ≤ length b = search rules in
     let o = c.in-Some.order in
-    let e = sym c.from-byte.ensures ∙ c.in-Some.is in
-    let n : c.read-u32.result ≡ u32_at o (drop 1 b) = c.read-u32.ensures ∙ u32_list_1 o b in
-    let e2 = ap code_of (sym n) ∙ sym c.from-number.ensures ∙ c.in-default-from-number.is in
-    stops_second c.args.total c.args.outer b _ TypeCode h c.requires c.new-in-default-from-number.ensures (λ f. header-code c.args.outer b f o h e h5 e2)
+    let e = sym c.from_byte.ensures ∙ c.in-Some.is in
+    let n : c.read_u32.result ≡ u32_at o (drop 1 b) = c.read_u32.ensures ∙ u32_list_1 o b in
+    let e2 = ap code_of (sym n) ∙ sym c.from_number.ensures ∙ c.in_default-from_number.is in
+    stops_second c.args.total c.args.outer b _ TypeCode h c.requires c.new-in_default-from_number.ensures (λ f. header-code c.args.outer b f o h e h5 e2)
 
 pub returns-in-empty : goal.returns-in-empty
 returns-in-empty c =
@@ -43,28 +43,28 @@ returns-else-first-lt2 c =
     let h : 1 ≤ length b = search rules in
     stops_first c.args.total c.args.outer b _ ByteOrder c.new-else-first-lt2.ensures (λ f. header-order c.args.outer b f h (order_none (get_or b 0 0) c.if-first-lt2.false))
 
-pub returns-then-fits-in : goal.returns-then-fits-in
-returns-then-fits-in c =
+pub returns-then-fits_in : goal.returns-then-fits_in
+returns-then-fits_in c =
     let b = c.args.bytes.now in
     let h : 1 ≤ length b = search rules in
     let h5 : 5 ≤ length b = search rules in
     let o = c.in-Some.order in
-    let d = c.in-Some-from-number.code in
-    let e = sym c.from-byte.ensures ∙ c.in-Some.is in
-    let n : c.read-u32.result ≡ u32_at o (drop 1 b) = c.read-u32.ensures ∙ u32_list_1 o b in
-    let e2 = ap code_of (sym n) ∙ sym c.from-number.ensures ∙ c.in-Some-from-number.is in
-    let e3 : fits c.args.outer d ≡ true = sym c.fits-in.ensures ∙ c.if-fits-in.true in
+    let d = c.in-Some-from_number.code in
+    let e = sym c.from_byte.ensures ∙ c.in-Some.is in
+    let n : c.read_u32.result ≡ u32_at o (drop 1 b) = c.read_u32.ensures ∙ u32_list_1 o b in
+    let e2 = ap code_of (sym n) ∙ sym c.from_number.ensures ∙ c.in-Some-from_number.is in
+    let e3 : fits c.args.outer d ≡ true = sym c.fits_in.ensures ∙ c.if-fits_in.true in
     (omega (arith, ap length (take_rest b 5), length-drop 5 b), λ f. header-there c.args.outer b f o h e d h5 e2 e3 ∙ ap (f o d) (sym (take_rest b 5)), code-at b o d e e2, e3)
 
-pub returns-else-fits-in : goal.returns-else-fits-in
-returns-else-fits-in c =
+pub returns-else-fits_in : goal.returns-else-fits_in
+returns-else-fits_in c =
     let b = c.args.bytes.now in
     let h : 1 ≤ length b = search rules in
     let h5 : 5 ≤ length b = search rules in
     let o = c.in-Some.order in
-    let d = c.in-Some-from-number.code in
-    let e = sym c.from-byte.ensures ∙ c.in-Some.is in
-    let n : c.read-u32.result ≡ u32_at o (drop 1 b) = c.read-u32.ensures ∙ u32_list_1 o b in
-    let e2 = ap code_of (sym n) ∙ sym c.from-number.ensures ∙ c.in-Some-from-number.is in
-    let e3 : fits c.args.outer d ≡ false = sym c.fits-in.ensures ∙ c.if-fits-in.false in
-    stops_second c.args.total c.args.outer b _ PartType h c.requires c.new-else-fits-in.ensures (λ f. header-misfit c.args.outer b f o h e d h5 e2 e3)
+    let d = c.in-Some-from_number.code in
+    let e = sym c.from_byte.ensures ∙ c.in-Some.is in
+    let n : c.read_u32.result ≡ u32_at o (drop 1 b) = c.read_u32.ensures ∙ u32_list_1 o b in
+    let e2 = ap code_of (sym n) ∙ sym c.from_number.ensures ∙ c.in-Some-from_number.is in
+    let e3 : fits c.args.outer d ≡ false = sym c.fits_in.ensures ∙ c.if-fits_in.false in
+    stops_second c.args.total c.args.outer b _ PartType h c.requires c.new-else-fits_in.ensures (λ f. header-misfit c.args.outer b f o h e d h5 e2 e3)

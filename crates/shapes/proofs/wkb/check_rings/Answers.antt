@@ -4,14 +4,14 @@ use Rattle.shapes.specs.Wkb.{line}
 use Rattle.shapes.proofs.Reading.{turn_passes, turn_fails, turns_pass}
 use Rattle.shapes.proofs.wkb.check_rings.Goals as goal
 
-pub returns-in-err-rest : goal.returns-in-err-rest
-returns-in-err-rest c =
-    let p = err_from_is_err_and c.from-residual.result c.from-residual.ensures.1 in
-    rw (p.1, p.2) (turn_fails (line c.args.order c.args.dim) c.args.n c.loop-ring.ring c.args.bytes.now c.loop-ring.rest.now c.loop-ring.invariant.1 c.args.total _ c.loop-ring-test.true c.in-err-rest.ensures)
+pub returns-in_err-rest : goal.returns-in_err-rest
+returns-in_err-rest c =
+    let p = err_from_is_err_and c.from_residual.result c.from_residual.ensures.1 in
+    rw (p.1, p.2) (turn_fails (line c.args.order c.args.dim) c.args.n c.loop-ring.ring c.args.bytes.now c.loop-ring.rest.now c.loop-ring.invariant.1 c.args.total _ c.loop-ring-test.true c.in_err-rest.ensures)
 
 pub loop-ring-preserved : goal.loop-ring-preserved
 loop-ring-preserved c =
-    let q = c.in-ok-rest.ensures in
+    let q = c.in_ok-rest.ensures in
     (omega (arith, q.0, c.loop-ring.invariant.0), turn_passes (line c.args.order c.args.dim) c.args.n c.loop-ring.ring c.args.bytes.now c.loop-ring.rest.now c.loop-ring.invariant.1 _ c.loop-ring-test.true q.1)
 
 pub returns : goal.returns

@@ -4,8 +4,8 @@ use Rattle.words.specs.Bytes.{TwoDigits}
 use Rattle.words.proofs.Fronts.{Front, front_more, no_bytes}
 use Rattle.words.proofs.bytes.read_bytes.Goals as goal
 
-pub returns-in-err-push : goal.returns-in-err-push
-returns-in-err-push c = let p = err_from_is_err_and c.from_residual.result c.from_residual.ensures.1 in rw p.1 tt
+pub returns-in_err-push-in-Some : goal.returns-in_err-push-in-Some
+returns-in_err-push-in-Some c = let p = err_from_is_err_and c.from_residual.result c.from_residual.ensures.1 in rw p.1 tt
 
 pub returns-in-None : goal.returns-in-None
 returns-in-None c =

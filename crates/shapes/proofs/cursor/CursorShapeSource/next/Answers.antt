@@ -12,4 +12,4 @@ gives None a b h = h
 gives (Some x) a b h = (h.first, h.code, omega (arith, h.lower), cursor_held a x (still b) h.first)
 
 pub returns : goal.returns
-returns c = record { gives = gives c.next-coord.result c.args.self.now _ c.next-coord.ensures; lacking = cursor_lacks c.args.self.now }
+returns c = record { gives = gives c.next_coord.result c.args.self.now _ c.next_coord.ensures; lacking = cursor_lacks c.args.self.now }

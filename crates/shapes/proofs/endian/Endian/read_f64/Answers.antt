@@ -9,7 +9,7 @@ unfolding f64_at
 returns c =
     let bits : c.match-self.bits ≡ u64_at c.args.self c.args.b =
     elim c.match-self.branch [
-      | in-Big w ↦ w.bits-is ∙ w.from-be-bytes-bits.ensures ∙ ap (λ o. u64_at o c.args.b) (sym w.in-Big.is)
-      | in-Little w ↦ w.bits-is ∙ w.from-le-bytes-bits.ensures ∙ ap (λ o. u64_at o c.args.b) (sym w.in-Little.is)
+      | in-Big w ↦ w.bits-is ∙ w.from_be_bytes-bits.ensures ∙ ap (λ o. u64_at o c.args.b) (sym w.in-Big.is)
+      | in-Little w ↦ w.bits-is ∙ w.from_le_bytes-bits.ensures ∙ ap (λ o. u64_at o c.args.b) (sym w.in-Little.is)
     ] in
-    c.f64-from-bits-with-nan.ensures ∙ ap (of_bits binary64) bits
+    c.f64_from_bits_with_nan.ensures ∙ ap (of_bits binary64) bits

@@ -16,10 +16,10 @@ no e = subst (λ (z : Bool). T (not z)) (sym e) tt
 
 pub returns : goal.returns
 returns c =
-    let v = c.f64-from-bits-with-nan-v.result in
+    let v = c.f64_from_bits_with_nan-v.result in
     let s = c.args.self in
     let lo : c.if-v-self.lo ≡ float_min s.lo v =
     elim c.if-v-self.branch [ then-v-self w ↦ w.lo-is ∙ lower-taken s.lo v (yes w.if-v-self.true) | else-v-self w ↦ w.lo-is ∙ lower-left s.lo v s.numbers.0 (no w.if-v-self.false) ] in
     let hi : c.if-self-v.hi ≡ float_max s.hi v =
     elim c.if-self-v.branch [ then-self-v w ↦ w.hi-is ∙ higher_taken s.hi v (yes w.if-self-v.true) | else-self-v w ↦ w.hi-is ∙ higher_left s.hi v s.numbers.1 (no w.if-self-v.false) ] in
-    ap₂ pair lo hi ∙ ap (λ (z : Float). with_value (spanned s) z) c.f64-from-bits-with-nan-v.ensures
+    ap₂ pair lo hi ∙ ap (λ (z : Float). with_value (spanned s) z) c.f64_from_bits_with_nan-v.ensures

@@ -37,7 +37,7 @@ returns-in-Point-kind c =
     let P = parts d s.inner s.counts s.depth in
     let part = shape (31 - s.depth) (Some (coded q d)) in
     let z = c.in-Ok.ensures in
-    let e : q ≡ Line = elim c.in-Point-kind.is [ inl p ↦ absurd (c.in-default.not-Point p) | inr p ↦ p ] in
+    let e : q ≡ Line = elim c.in-Point-kind.is [ inl p ↦ absurd (c.in_default.not-Point p) | inr p ↦ p ] in
     record {
       same =
           ap (λ r. r.coords)
@@ -83,7 +83,7 @@ returns-then-n-eq0 c =
       same =
           ap (λ r. r.coords)
           (pending-parts s.order d s.joins s.inner s.counts s.depth c.in-Ok.rest.now c.requires.rings c.requires.points
-          ∙ sym (ap (λ (r : Reader → Reader). r P c.args.after.now) (body-container c.args.order d part q c.in-default.not-Point c.in-default-kind.not-Line c.in-default-kind.not-Polygon)
+          ∙ sym (ap (λ (r : Reader → Reader). r P c.args.after.now) (body-container c.args.order d part q c.in_default.not-Point c.in_default-kind.not-Line c.in_default-kind.not-Polygon)
           ∙ counted-there c.args.order (times part) c.args.after.now c.in-Ok.n c.in-Ok.rest.now P z.0 z.1 z.2
           ∙ times_zero part c.in-Ok.n P c.in-Ok.rest.now c.if-n-eq0.true));
       less = omega (arith, z.0, ap length z.2, length-drop 4 c.args.after.now);
@@ -105,8 +105,8 @@ returns-then-self-lt-RINGS c =
       same =
           ap (λ r. r.coords)
           (begin_parts s.order d s.inner s.counts s.depth l s.shallow c.requires.rings c.requires.points s.joins q c.in-Ok.n c.in-Ok.rest.now c.if-self-lt-RINGS.true
-          (λ h. only-collection s.inner q (c.requires.fitting h) c.in-default.not-Point c.in-default-kind.not-Line c.in-default-kind.not-Polygon)
-          ∙ sym (ap (λ (r : Reader → Reader). r P c.args.after.now) (body-container c.args.order d part q c.in-default.not-Point c.in-default-kind.not-Line c.in-default-kind.not-Polygon)
+          (λ h. only-collection s.inner q (c.requires.fitting h) c.in_default.not-Point c.in_default-kind.not-Line c.in_default-kind.not-Polygon)
+          ∙ sym (ap (λ (r : Reader → Reader). r P c.args.after.now) (body-container c.args.order d part q c.in_default.not-Point c.in_default-kind.not-Line c.in_default-kind.not-Polygon)
           ∙ counted-there c.args.order (times part) c.args.after.now c.in-Ok.n c.in-Ok.rest.now P z.0 z.1 z.2));
       less = omega (arith, z.0, ap length z.2, length-drop 4 c.args.after.now);
       shorter = omega (arith, z.0, ap length z.2, length-drop 4 c.args.after.now);
@@ -124,7 +124,7 @@ returns-else-self-lt-RINGS c =
     let z = c.in-Ok.ensures in
     let none : 31 - s.depth ≡ 0 = omega (arith, c.if-self-lt-RINGS.false) in
     let h : 0 < c.in-Ok.n = omega (arith, c.if-n-eq0.false) in
-    ap (λ r. r.coords) (ap (λ (r : Reader → Reader). r P c.args.after.now) (body-container c.args.order d part q c.in-default.not-Point c.in-default-kind.not-Line c.in-default-kind.not-Polygon)
+    ap (λ r. r.coords) (ap (λ (r : Reader → Reader). r P c.args.after.now) (body-container c.args.order d part q c.in_default.not-Point c.in_default-kind.not-Line c.in_default-kind.not-Polygon)
     ∙ counted-there c.args.order (times part) c.args.after.now c.in-Ok.n c.in-Ok.rest.now P z.0 z.1 z.2)
     ∙ too_deep (31 - s.depth) (coded q d) c.in-Ok.n P c.in-Ok.rest.now none h
 
@@ -134,4 +134,4 @@ returns-in-Err c =
     let s = c.args.self.now in
     let d = s.code.dim in
     let q = c.args.kind in
-    body-short c.args.order d (shape (31 - s.depth) (Some (coded q d))) q (parts d s.inner s.counts s.depth) c.args.after.now c.in-default.not-Point c.in-Err.ensures.0
+    body-short c.args.order d (shape (31 - s.depth) (Some (coded q d))) q (parts d s.inner s.counts s.depth) c.args.after.now c.in_default.not-Point c.in-Err.ensures.0

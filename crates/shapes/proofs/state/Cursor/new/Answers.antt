@@ -27,5 +27,5 @@ returns-then-not-enter c code coords e =
     shape_same (q.2 ∙ d.0)
     (none-pending Big c.in-Ok.code.dim false Collection b ∙ sym p ∙ ap (λ r. r.coords) (whole-headed Collection (replicate 33 0) b c.in-Ok.order c.in-Ok.code c.in-Ok.after.now q.1) ∙ d.1)
 
-pub returns-in-default : goal.returns-in-default
-returns-in-default c code coords e = absurd (whole-unheaded c.args.checked.bytes.now _ code coords c.in-default.ensures e)
+pub returns-in_default : goal.returns-in_default
+returns-in_default c code coords e = absurd (whole-unheaded c.args.checked.bytes.now _ code coords c.in_default.ensures e)

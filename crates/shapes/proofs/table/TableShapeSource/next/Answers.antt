@@ -14,4 +14,4 @@ pub returns-in-len1-up : goal.returns-in-len1-up
 returns-in-len1-up c =
     let xs = c.args.self.now.rest.now in
     let h : 0 < length xs = search rules in
-    record { gives = (map_first (on_axes c.args.self.now.code.dim) xs _ c.on-axes-c.result h c.on-axes-c.ensures, refl, omega (arith, ap length (take_rest xs 1), length-drop 1 xs, h), search rules); lacking = table_lacks c.args.self.now.code.dim xs }
+    record { gives = (map_first (on_axes c.args.self.now.code.dim) xs _ c.on_axes-c.result h c.on_axes-c.ensures, refl, omega (arith, ap length (take_rest xs 1), length-drop 1 xs, h), search rules); lacking = table_lacks c.args.self.now.code.dim xs }

@@ -49,7 +49,7 @@ returns g c =
     let s = g.S.ShapeSource.means c.args.source.now in
     let k = kept c.args.self.now.kept in
     let h = ends c.args.self.now.hint in
-    let ends' = c.in-default.ensures.gives in
+    let ends' = c.in_default.ensures.gives in
     let walked = c.settled-last.ensures ∙ walk_end c.divide-middle.result (kept c.loop-c.page) (four c.loop-c.hulls) (g.S.ShapeSource.means c.loop-c.source).coords ends'.0 ∙ c.loop-c.invariant.0
     ∙ ap (λ (t : Float). walk t k none s.coords) c.divide-middle.ensures in
     let marked : mark (kept c.settled-last.result) (2 ^ place c.code-code.result) ≡ mark (walk _ k none s.coords) (2 ^ place s.code) =

@@ -10,8 +10,8 @@ loop-at-preserved c =
     let b = c.loop-at.rest in
     let l = listed (28 - (p + 1)) (p + 1) (b / 2) in
     elim c.if-rest-eq1.branch [
-      | goal.then-rest-eq1+in-ok-push w ↦
-          (λ i. vec_items (w.found-is i) ++ l) ∙ (λ i. w.in-ok-push.ensures.items i ++ l) ∙ listed_in xs p b c.loop-at-test.true w.if-rest-eq1.true ∙ c.loop-at.invariant
+      | goal.then-rest-eq1+in_ok-push w ↦
+          (λ i. vec_items (w.found-is i) ++ l) ∙ (λ i. w.in_ok-push.ensures.items i ++ l) ∙ listed_in xs p b c.loop-at-test.true w.if-rest-eq1.true ∙ c.loop-at.invariant
       | goal.else-rest-eq1 w ↦ (λ i. vec_items (w.found-is i) ++ l) ∙ listed-out xs p b c.loop-at-test.true w.if-rest-eq1.false ∙ c.loop-at.invariant
     ]
 

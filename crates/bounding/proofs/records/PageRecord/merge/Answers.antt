@@ -13,14 +13,14 @@ pub returns : goal.returns
 returns c =
     let a = c.args.self.now in
     let b = c.args.other.now in
-    let e : kept (record { x_left = c.merge-interval.result; x_mid = c.merge-interval-2.result; x_right = c.merge-interval-3.result; y = c.merge-interval-4.result; z = c.merge-interval-5.result; m = c.merge-interval-6.result; codes = c.union.result }) ≡ merge (kept a) (kept b) =
+    let e : kept (record { x_left = c.merge_interval.result; x_mid = c.merge_interval-2.result; x_right = c.merge_interval-3.result; y = c.merge_interval-4.result; z = c.merge_interval-5.result; m = c.merge_interval-6.result; codes = c.union.result }) ≡ merge (kept a) (kept b) =
     λ i. record {
-      left = c.merge-interval.ensures.exact i;
-      mid = c.merge-interval-2.ensures.exact i;
-      right = c.merge-interval-3.ensures.exact i;
-      y = c.merge-interval-4.ensures.exact i;
-      z = c.merge-interval-5.ensures.exact i;
-      m = c.merge-interval-6.ensures.exact i;
+      left = c.merge_interval.ensures.exact i;
+      mid = c.merge_interval-2.ensures.exact i;
+      right = c.merge_interval-3.ensures.exact i;
+      y = c.merge_interval-4.ensures.exact i;
+      z = c.merge_interval-5.ensures.exact i;
+      m = c.merge_interval-6.ensures.exact i;
       codes = c.union.ensures i;
     } in
     record { exact = e; law = together (kept a) (kept b) _ e }

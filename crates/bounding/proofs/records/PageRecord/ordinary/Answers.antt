@@ -11,6 +11,6 @@ pub returns : goal.returns
 unfolding ordinary outer
 returns c =
     let h = ends c.args.hint.now in
-    let W = c.contains-interval.ensures.exact ∙ ap (λ (e : Pair). contains h e) c.all-all.ensures in
+    let W = c.contains_interval.ensures.exact ∙ ap (λ (e : Pair). contains h e) c.all-all.ensures in
     let D = c.width.ensures ∙ ap width c.all-all.ensures in
-    λ i. not (c.is-empty.ensures i) || not (W i) || not (beq (c.is-empty-2.ensures i) (c.is-empty-3.ensures i)) || lt (D i) (outer h (kept c.args.self.now))
+    λ i. not (c.is_empty.ensures i) || not (W i) || not (beq (c.is_empty-2.ensures i) (c.is_empty-3.ensures i)) || lt (D i) (outer h (kept c.args.self.now))

@@ -18,10 +18,10 @@ within i n stride h k = let m = mul-le-mul_right stride (lt-le h) in record { fi
     lt-le : i < n → i ≤ n
     lt-le l = omega arith
 
-pub offset-bounds-requests-i : goal.offset-bounds-requests-i
-offset-bounds-requests-i g c =
+pub offset_bounds-requests-i : goal.offset_bounds-requests-i
+offset_bounds-requests-i g c =
     let inside : c.loop-i.i < length c.args.requests.now = omega arith in
-    within c.loop-i.i (length c.args.requests.now) _ inside c.well-formed.1.1.1.0.1
+    within c.loop-i.i (length c.args.requests.now) _ inside c.well_formed.1.1.1.0.1
 
 pub loop-i-init : goal.loop-i-init
 unfolding run

@@ -12,11 +12,11 @@ returns-then-met g c u =
     let w = frame_of g.K.IntervalTrait.covers c.args.window.now in
     let x = c.in-Some.x in
     let e = inner_ends x in
-    let taken = c.in-ok-bounds.ensures in
+    let taken = c.in_ok-bounds.ensures in
     let wrapping = g.K.IntervalTrait.wrapping in
     let is : t.x ≡ Some e = ap optional_inner c.in-Some.is in
-    let X = taken_shares (g.K.IntervalTrait.covers c.in-ok-bounds.bounds) w.x e c.intersects-interval.result x.inner.held.0 (lower-number wrapping e taken.0) taken.1 c.intersects-interval.ensures in
-    tested wrapping w t e Keep is taken.0 (keeps t w e c.intersects-interval.result c.shares.result c.shares_asked.result c.shares-asked-2.result is u X c.shares.ensures c.shares_asked.ensures c.shares-asked-2.ensures (grind arith))
+    let X = taken_shares (g.K.IntervalTrait.covers c.in_ok-bounds.bounds) w.x e c.intersects_interval.result x.inner.held.0 (lower-number wrapping e taken.0) taken.1 c.intersects_interval.ensures in
+    tested wrapping w t e Keep is taken.0 (keeps t w e c.intersects_interval.result c.shares.result c.shares_asked.result c.shares_asked-2.result is u X c.shares.ensures c.shares_asked.ensures c.shares_asked-2.ensures (grind arith))
 
 pub returns : goal.returns
 returns g c u =
@@ -24,8 +24,8 @@ returns g c u =
     let w = frame_of g.K.IntervalTrait.covers c.args.window.now in
     let x = c.in-Some.x in
     let e = inner_ends x in
-    let taken = c.in-ok-bounds.ensures in
+    let taken = c.in_ok-bounds.ensures in
     let wrapping = g.K.IntervalTrait.wrapping in
     let is : t.x ≡ Some e = ap optional_inner c.in-Some.is in
-    let X = taken_shares (g.K.IntervalTrait.covers c.in-ok-bounds.bounds) w.x e c.intersects-interval.result x.inner.held.0 (lower-number wrapping e taken.0) taken.1 c.intersects-interval.ensures in
-    tested wrapping w t e Skip is taken.0 (skips t w e c.intersects-interval.result c.shares.result c.shares_asked.result c.shares-asked-2.result is u X c.shares.ensures c.shares_asked.ensures c.shares-asked-2.ensures (grind arith))
+    let X = taken_shares (g.K.IntervalTrait.covers c.in_ok-bounds.bounds) w.x e c.intersects_interval.result x.inner.held.0 (lower-number wrapping e taken.0) taken.1 c.intersects_interval.ensures in
+    tested wrapping w t e Skip is taken.0 (skips t w e c.intersects_interval.result c.shares.result c.shares_asked.result c.shares_asked-2.result is u X c.shares.ensures c.shares_asked.ensures c.shares_asked-2.ensures (grind arith))

@@ -11,4 +11,4 @@ pub returns-in-Some : goal.returns-in-Some
 returns-in-Some c =
     let b = c.in-Some.bounds in
     let s = set c.args.window.now in
-    subst (λ (o : Option Interval). SharesIf (optional o) s c.intersects-interval.result) (sym c.in-Some.is) (told-shares (ends b) s c.intersects-interval.result b.held.0 c.intersects-interval.ensures.law)
+    subst (λ (o : Option Interval). SharesIf (optional o) s c.intersects_interval.result) (sym c.in-Some.is) (told-shares (ends b) s c.intersects_interval.result b.held.0 c.intersects_interval.ensures.law)

@@ -10,12 +10,12 @@ use Rattle.script.proofs.bounder.added.Goals as goal
 pub returns-in-Table : goal.returns-in-Table
 returns-in-Table c =
     let n = c.in-Table.code in
-    let same = c.as-slice-in-Table.ensures.value in
+    let same = c.as_slice-in-Table.ensures.value in
     let h = ends c.args.bounder.now.hint in
     let k = kept c.args.bounder.now.kept in
-    let l = kept c.count-table.new.bounder.kept in
+    let l = kept c.count_table.new.bounder.kept in
     record {
-      answer = c.count-table.ensures.answer ∙ ap (λ (cs : List Coord). counted_as (λ f. SourceRefused f) (table_of n cs)) same ∙ sym (ap (λ (g : Given). counted_as (refusal g) (meant g)) c.in-Table.is);
-      keeps = subst (λ (g : Given). Takes (meant g) h k l) (sym c.in-Table.is) (subst (λ (cs : List Coord). Takes (table_of n cs) h k l) same c.count-table.ensures.keeps);
+      answer = c.count_table.ensures.answer ∙ ap (λ (cs : List Coord). counted_as (λ f. SourceRefused f) (table_of n cs)) same ∙ sym (ap (λ (g : Given). counted_as (refusal g) (meant g)) c.in-Table.is);
+      keeps = subst (λ (g : Given). Takes (meant g) h k l) (sym c.in-Table.is) (subst (λ (cs : List Coord). Takes (table_of n cs) h k l) same c.count_table.ensures.keeps);
       hint = search rules;
     }

@@ -7,4 +7,4 @@ loop-coord-preserved g c =
     let x = c.in-Some.coord in
     let xs = vec_items c.loop-coord.coords in
     let cs = (g.S.ShapeSource.means c.next.new.self).coords in
-    (λ i. c.in-ok-push.ensures.items i ++ cs) ∙ append_assoc xs (x ∷ []) cs ∙ ap (λ (l : List Coord). xs ++ l) (sym c.in-Some.ensures.gives.0) ∙ c.loop-coord.invariant
+    (λ i. c.in_ok-push.ensures.items i ++ cs) ∙ append_assoc xs (x ∷ []) cs ∙ ap (λ (l : List Coord). xs ++ l) (sym c.in-Some.ensures.gives.0) ∙ c.loop-coord.invariant

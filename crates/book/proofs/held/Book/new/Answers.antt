@@ -7,7 +7,7 @@ pub returns : goal.returns
 returns c =
     record {
       kept = nothing-kept _ _ _;
-      hint = ap ends (c.start.ensures.hint ∙ c.with-wraparound-hint.ensures);
+      hint = ap ends (c.start.ensures.hint ∙ c.with_wraparound_hint.ensures);
       table = refl;
       same_table = refl;
       same_pending = refl;

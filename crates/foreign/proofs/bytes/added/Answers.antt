@@ -11,8 +11,8 @@ pub returns : goal.returns
 returns c =
     let h = ends c.args.hint in
     let d = decode c.args.bytes.now in
-    let held = c.in-ok-kept.ensures in
-    let shape = c.in-ok-shape.ensures in (
+    let held = c.in_ok-kept.ensures in
+    let shape = c.in_ok-shape.ensures in (
       ap (λ (o : Option Refusal). before o (byte_refusal d)) held.0 ∙ shape.0,
-      λ ss e. c.raw-record.ensures ∙ ap raw_record (c.merge.ensures.law h ss (shapes_in d) (held.1 ∙ e) shape.1),
+      λ ss e. c.raw_record.ensures ∙ ap raw_record (c.merge.ensures.law h ss (shapes_in d) (held.1 ∙ e) shape.1),
     )

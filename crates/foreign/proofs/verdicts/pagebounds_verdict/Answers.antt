@@ -12,13 +12,13 @@ pub returns : goal.returns
 returns c =
     let raw = c.args.window.now in
     let page = c.args.page.now in
-    let v = c.rule-page-done.new.verdict in
+    let v = c.rule_page-done.new.verdict in
     let left : Type 0 = v ≡ c.args.verdict.now in
     let before = ends c.bounds.result in
     let h = pair_of c.args.hint.now in
     let (is, done) =
-    subst (λ (e : Pair). (refusal_of c.rule-page-done.result ≡ verdict_refusal raw e page) × Unless (verdict_refusal raw e page) (Rules (frame raw) (told e (kept_in page)) v) left) c.bounds.ensures
-    (finished c.rule-page-done.result (verdict_refusal raw before page) (Rules (frame raw) (told before (kept_in page)) v) left c.rule-page-done.ensures) in
+    subst (λ (e : Pair). (refusal_of c.rule_page-done.result ≡ verdict_refusal raw e page) × Unless (verdict_refusal raw e page) (Rules (frame raw) (told e (kept_in page)) v) left) c.bounds.ensures
+    (finished c.rule_page-done.result (verdict_refusal raw before page) (Rules (frame raw) (told before (kept_in page)) v) left c.rule_page-done.ensures) in
     let fits : to_z w32 (of_z w32 c.status.result) ≡ c.status.result = search rules in
     record {
       answers = (fits ∙ c.status.ensures.0 ∙ ap returned is, c.status.ensures.1 ∙ ap (λ (o : Option Refusal). fault_after o c.args.fault.now) is);

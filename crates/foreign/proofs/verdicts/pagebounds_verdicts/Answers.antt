@@ -11,12 +11,12 @@ pub returns : goal.returns
 returns c =
     let raw = c.args.window.now in
     let rs = c.args.pages.now in
-    let bs = c.rule-pages-done.new.verdicts in
+    let bs = c.rule_pages-done.new.verdicts in
     let left : Type 0 = bs ≡ c.args.verdicts.now in
     let o = verdicts_refusal raw (length rs) (length c.args.verdicts.now) in
     let before = ends c.bounds.result in
     let h = pair_of c.args.hint.now in
-    let (is, kept) = finished c.rule-pages-done.result o (PageBytes (wraps raw) (frame raw) before rs bs) left c.rule-pages-done.ensures in
+    let (is, kept) = finished c.rule_pages-done.result o (PageBytes (wraps raw) (frame raw) before rs bs) left c.rule_pages-done.ensures in
     let done = subst (λ (e : Pair). Unless o (PageBytes (wraps raw) (frame raw) e rs bs) left) c.bounds.ensures kept in
     let fits : to_z w32 (of_z w32 c.status.result) ≡ c.status.result = search rules in
     record {

@@ -11,10 +11,10 @@ pub returns : goal.returns
 returns g c =
     let h = ends c.args.hint.now in
     let rs = c.args.pages.now in
-    let bs = c.write-bytes.new.verdicts in
-    let (pairs, firm, alike) = c.in-ok-window.ensures in (
+    let bs = c.write_bytes.new.verdicts in
+    let (pairs, firm, alike) = c.in_ok-window.ensures in (
       pairs,
       λ k d lt.
           let r = get_or rs k d in
-          byte_alike (told h (kept_in r)) (frame_of g.K.IntervalTrait.covers c.in-ok-window.window) (frame c.args.raw.now) (page_refusal g.K.IntervalTrait.wrapping h r) (get_or bs k 0) alike (c.write-bytes.ensures firm k d lt),
+          byte_alike (told h (kept_in r)) (frame_of g.K.IntervalTrait.covers c.in_ok-window.window) (frame c.args.raw.now) (page_refusal g.K.IntervalTrait.wrapping h r) (get_or bs k 0) alike (c.write_bytes.ensures firm k d lt),
     )

@@ -13,8 +13,8 @@ returns-then-window-eq1 c =
     let h = ends c.args.hint.now in
     let kind = eq-eqb w.kind 1 c.if-window-eq1.true in
     let long : eqb (length rs) (length c.args.verdicts.now) ≡ true = eq-eqb _ _ (omega arith) in
-    let same = all-kind w (length rs) (length c.args.verdicts.now) true kind c.in-ok-sensible.ensures long in
-    MatchResult-weaker c.rule-all.result c.rule-all.ensures (λ u p. (same None p.0, subst (λ (b : Bool). PageBytes b (frame w) h rs c.rule-all.new.verdicts) (sym kind) p.1)) (λ e p. (same (Some e) p.0, p.1))
+    let same = all-kind w (length rs) (length c.args.verdicts.now) true kind c.in_ok-sensible.ensures long in
+    MatchResult-weaker c.rule_all.result c.rule_all.ensures (λ u p. (same None p.0, subst (λ (b : Bool). PageBytes b (frame w) h rs c.rule_all.new.verdicts) (sym kind) p.1)) (λ e p. (same (Some e) p.0, p.1))
 
 pub returns-else-window-eq1 : goal.returns-else-window-eq1
 returns-else-window-eq1 c =
@@ -23,5 +23,5 @@ returns-else-window-eq1 c =
     let h = ends c.args.hint.now in
     let kind = ne_eqb w.kind 1 c.if-window-eq1.false in
     let long : eqb (length rs) (length c.args.verdicts.now) ≡ true = eq-eqb _ _ (omega arith) in
-    let same = all-kind w (length rs) (length c.args.verdicts.now) false kind c.in-ok-sensible.ensures long in
-    MatchResult-weaker c.rule-all-else-window-eq1.result c.rule-all-else-window-eq1.ensures (λ u p. (same None p.0, subst (λ (b : Bool). PageBytes b (frame w) h rs c.rule-all-else-window-eq1.new.verdicts) (sym kind) p.1)) (λ e p. (same (Some e) p.0, p.1))
+    let same = all-kind w (length rs) (length c.args.verdicts.now) false kind c.in_ok-sensible.ensures long in
+    MatchResult-weaker c.rule_all-else-window-eq1.result c.rule_all-else-window-eq1.ensures (λ u p. (same None p.0, subst (λ (b : Bool). PageBytes b (frame w) h rs c.rule_all-else-window-eq1.new.verdicts) (sym kind) p.1)) (λ e p. (same (Some e) p.0, p.1))

@@ -2,7 +2,7 @@
 use Rattle.std.proofs.Common.{◌≡◌, ℕ, zero, suc, ◌+◌, ◌*◌, ◌/◌, ◌%◌, ◌^◌, ◌<◌, ◌≤◌, Bool, true, false, List, [], ◌∷◌, ◌++◌, reverse, length, drop, sym, refl, ap, ◌∙◌, inl, inr, append_assoc, arith, length-drop}
 use Rattle.std.proofs.lemmas.Bool.{cases_lt}
 use Rattle.std.proofs.ByRecursion.{All-drop}
-use Rattle.std.specs.List.{AllByRecursion as All}
+use Rattle.std.specs.List.{AllByRecursion}
 use Rattle.shapes.specs.declared.endian.Endian.{Endian}
 use Rattle.shapes.specs.declared.endian.Endian.TheVariants.{Big, Little}
 use Rattle.shapes.specs.declared.code.Dimension.{Dimension}
@@ -18,7 +18,7 @@ use Rattle.shapes.proofs.WrittenRead.{Reads, coord-read}
 -- ---- numbers
 
 abbrev pub Bytes : List ℕ → Type 0
-Bytes b = All (λ n. n < 256) b
+Bytes b = AllByRecursion (λ n. n < 256) b
 
 value : List ℕ → ℕ
 value [] = 0
@@ -113,7 +113,7 @@ found_map P f Q g m p s k e b x = record {
 }
 
 module _ {A : Type 0} (r : Reader → Reader) (P : A → Type 0) (f : A → List ℕ) (one : Undoes r P f) where
-  pub times-back : (n : ℕ) → Undoes (times r n) (λ l. (length l ≡ n) × All P l) (flat f)
+  pub times-back : (n : ℕ) → Undoes (times r n) (λ l. (length l ≡ n) × AllByRecursion P l) (flat f)
   unfolding times flat
   times-back zero k e b hb h = record { thing = []; good = (refl, tt); rest = b; split = refl; small = hb; goes = h }
   times-back (suc n) k e b hb h =
@@ -160,7 +160,7 @@ eights-back (suc n) k e b h =
 record Laid (o : Endian) (n : ℕ) (b : List ℕ) : Type 0 where
   place' : Place
   size : length place' ≡ n
-  low : All (λ i. i < 2 ^ 64) place'
+  low : AllByRecursion (λ i. i < 2 ^ 64) place'
   rest : List ℕ
   split : b ≡ place o place' ++ rest
   small : Bytes rest
@@ -196,7 +196,7 @@ module _ (o : Endian) (d : Dimension) where
         goes = goes_on (coord o d j) (place o x.place') (coord_of d j x.place' ∷ []) k e b x.rest (coord-read o d j x.place' good) x.split h;
       }
 
-  points-back : (n : ℕ) (j : Bool) → Undoes (points o d j n) (λ ps. (length ps ≡ n) × All (IsPlace d) ps) (flat (place o))
+  points-back : (n : ℕ) (j : Bool) → Undoes (points o d j n) (λ ps. (length ps ≡ n) × AllByRecursion (IsPlace d) ps) (flat (place o))
   unfolding points flat
   points-back zero j k e b hb h = record { thing = []; good = (refl, tt); rest = b; split = refl; small = hb; goes = h }
   points-back (suc n) j k e b hb h =
@@ -212,7 +212,7 @@ module _ (o : Endian) (d : Dimension) where
       }
 
   pub line-back : Undoes (line o d) (IsRing d) (ring o)
-  line-back = counted_back o (points o d false) length (All (IsPlace d)) (flat (place o)) (λ n. points-back n false)
+  line-back = counted_back o (points o d false) length (AllByRecursion (IsPlace d)) (flat (place o)) (λ n. points-back n false)
 
-  pub rings_back : Undoes (counted o (times (line o d))) (λ rs. (length rs < 2 ^ 32) × All (IsRing d) rs) (λ rs. bytes o 4 (length rs) ++ flat (ring o) rs)
-  rings_back = counted_back o (times (line o d)) length (All (IsRing d)) (flat (ring o)) (times-back (line o d) (IsRing d) (ring o) line-back)
+  pub rings_back : Undoes (counted o (times (line o d))) (λ rs. (length rs < 2 ^ 32) × AllByRecursion (IsRing d) rs) (λ rs. bytes o 4 (length rs) ++ flat (ring o) rs)
+  rings_back = counted_back o (times (line o d)) length (AllByRecursion (IsRing d)) (flat (ring o)) (times-back (line o d) (IsRing d) (ring o) line-back)

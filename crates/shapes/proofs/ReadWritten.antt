@@ -3,7 +3,7 @@ use Rattle.std.proofs.Common.{◌≡◌, ℕ, zero, suc, ◌+◌, ◌^◌, ◌<�
 use Rattle.std.proofs.lemmas.Bool.{and_parts, eqb-true}
 use Rattle.std.proofs.lemmas.Bool.Decides.{nat_tests}
 use Rattle.std.proofs.ByRecursion.{All-drop}
-use Rattle.std.specs.List.{AllByRecursion as All}
+use Rattle.std.specs.List.{AllByRecursion}
 use Rattle.shapes.specs.declared.endian.Endian.{Endian}
 use Rattle.shapes.specs.declared.code.Dimension.{Dimension}
 use Rattle.shapes.specs.declared.code.Code.{Code}
@@ -176,7 +176,7 @@ module _ (l : ℕ) (o : Endian) (d : Dimension) (part : Kind → Reader → Read
       found_map (IsRing d) (ring o) (InBody l o d Line) (content d) (aLine o) (λ ps g. (refl, refl, g, omega arith)) (λ ps. refl) k e b
       (line-back o d k e b hb h)
   body_back Polygon k e b hb h =
-      found_map (λ rs. (length rs < 2 ^ 32) × All (IsRing d) rs) (λ rs. bytes o 4 (length rs) ++ flat (ring o) rs) (InBody l o d Polygon) (content d) (polygon o) (λ rs g. (refl, refl, g, omega arith)) (λ rs. refl) k e b
+      found_map (λ rs. (length rs < 2 ^ 32) × AllByRecursion (IsRing d) rs) (λ rs. bytes o 4 (length rs) ++ flat (ring o) rs) (InBody l o d Polygon) (content d) (polygon o) (λ rs g. (refl, refl, g, omega arith)) (λ rs. refl) k e b
       (rings_back o d k e b hb h)
   body_back MultiPoint k e b hb h = group-back l o d ofPoints (part MultiPoint) (one ofPoints) k e b hb h
   body_back MultiLine k e b hb h = group-back l o d ofLines (part MultiLine) (one ofLines) k e b hb h

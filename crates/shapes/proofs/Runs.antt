@@ -3,7 +3,7 @@ use Rattle.std.proofs.Common.{◌≡◌, ℕ, zero, suc, ◌+◌, ◌-◌, ◌*�
 use lib.Ieee.{Float, nan}
 use Rattle.std.proofs.lemmas.List.{drop-drop}
 use Rattle.std.proofs.lemmas.Bool.{cases_lt}
-use Rattle.std.specs.List.{AllByRecursion as All}
+use Rattle.std.specs.List.{AllByRecursion}
 use Rattle.interval.specs.Pairs.{Pair, nothing}
 use Rattle.interval.specs.Ordinary.{with_value}
 use Rattle.shapes.specs.declared.endian.Endian.{Endian}
@@ -87,7 +87,7 @@ joins_at o Xyz b = refl
 joins_at o Xym b = refl
 joins_at o Xyzm b = refl
 
-pub run-joined : (o : Endian) (d : Dimension) (n : ℕ) (b : List ℕ) → All (λ c. c.joins ≡ true) (run o d true n b)
+pub run-joined : (o : Endian) (d : Dimension) (n : ℕ) (b : List ℕ) → AllByRecursion (λ c. c.joins ≡ true) (run o d true n b)
 unfolding run
 run-joined o d zero b = tt
 run-joined o d (suc n) b = (joins_at o d b, run-joined o d n (drop (8 * width d) b))

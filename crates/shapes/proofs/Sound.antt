@@ -4,7 +4,7 @@ use lib.Ieee.{binary64, fits as holds}
 use lib.Ieee.Bits.{of_bits-fits}
 use lib.Ieee.Fits.{nan-fits}
 use Rattle.std.proofs.lemmas.Bool.{cases_lt}
-use Rattle.std.specs.List.{AllByRecursion as All}
+use Rattle.std.specs.List.{AllByRecursion}
 use Rattle.interval.specs.declared.fault.Cause.{Cause}
 use Rattle.interval.specs.declared.fault.Cause.TheVariants.{Truncated, PartType, TooDeep}
 use Rattle.shapes.specs.declared.endian.Endian.{Endian}
@@ -31,7 +31,7 @@ record Proper (d : Dimension) (c : Coord) : Type 0 where
 
 record Kept (d : Dimension) (n : ℕ) (r : Run) : Type 0 where
   few : 16 * length r.coords ≤ n
-  proper : All (Proper d) r.coords
+  proper : AllByRecursion (Proper d) r.coords
 
 abbrev Bounded : Dimension → Reader → Type 0
 Bounded d k = (b : List ℕ) → Kept d (length b) (k b)
@@ -147,7 +147,7 @@ pub cursor_enough : (s : Cursor) → 16 * length (still s) ≤ length s.rest.now
 unfolding still
 cursor_enough s = (pending-kept s.order s.code.dim s.joins s.inner s.counts s.depth s.rest.now).few
 
-all-lack : (d : Dimension) (cs : List Coord) → All (Proper d) cs → All (Lacks d) cs
+all-lack : (d : Dimension) (cs : List Coord) → AllByRecursion (Proper d) cs → AllByRecursion (Lacks d) cs
 all-lack d [] h = tt
 all-lack d (c ∷ cs) h = (h.0.lacks, all-lack d cs h.1)
 
@@ -158,13 +158,13 @@ cursor_lacks s = all-lack s.code.dim _ (pending-kept s.order s.code.dim s.joins 
 pub cursor_held : (s : Cursor) (x : Coord) (cs : List Coord) → still s ≡ x ∷ cs → InBinary64 x
 unfolding still
 cursor_held s x cs e =
-    let P : List Coord → Type 0 = λ l. All (Proper s.code.dim) l in
+    let P : List Coord → Type 0 = λ l. AllByRecursion (Proper s.code.dim) l in
     (subst P e (pending-kept s.order s.code.dim s.joins s.inner s.counts s.depth s.rest.now).proper).0.held
 
-all_held : (d : Dimension) (cs : List Coord) → All (Proper d) cs → All InBinary64 cs
+all_held : (d : Dimension) (cs : List Coord) → AllByRecursion (Proper d) cs → AllByRecursion InBinary64 cs
 all_held d [] h = tt
 all_held d (c ∷ cs) h = (h.0.held, all_held d cs h.1)
 
-pub cursor_all_held : (s : Cursor) → All InBinary64 (still s)
+pub cursor_all_held : (s : Cursor) → AllByRecursion InBinary64 (still s)
 unfolding still
 cursor_all_held s = all_held s.code.dim _ (pending-kept s.order s.code.dim s.joins s.inner s.counts s.depth s.rest.now).proper

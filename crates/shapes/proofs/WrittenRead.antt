@@ -1,7 +1,7 @@
 -- What is written is read.
 use Rattle.std.proofs.Common.{◌≡◌, ℕ, zero, suc, ◌+◌, ◌*◌, ◌^◌, ◌<◌, ◌≤◌, Bool, true, false, eqb, List, [], ◌∷◌, ◌++◌, length, get_or, drop, Some, None, Option, sym, refl, ap, ◌∙◌, append_assoc, append-nil, arith, drop-drop}
 use lib.Ieee.{nan, binary64, of_bits}
-use Rattle.std.specs.List.{AllByRecursion as All}
+use Rattle.std.specs.List.{AllByRecursion}
 use Rattle.shapes.specs.declared.endian.Endian.{Endian}
 use Rattle.shapes.specs.declared.endian.Endian.TheVariants.{Big, Little}
 use Rattle.shapes.specs.declared.code.Dimension.{Dimension}
@@ -103,7 +103,7 @@ module _ (o : Endian) (rest : List ℕ) where
   skip_place [] = refl
   skip_place (n ∷ p) = step-8 (length p) n p ∙ skip_place p
 
-  ordinate_read : (p : Place) (i : ℕ) → i < length p → All (λ n. n < 2 ^ 64) p → f64_at o (drop (8 * i) (place o p ++ rest)) ≡ float (get_or p i 0)
+  ordinate_read : (p : Place) (i : ℕ) → i < length p → AllByRecursion (λ n. n < 2 ^ 64) p → f64_at o (drop (8 * i) (place o p ++ rest)) ≡ float (get_or p i 0)
   unfolding flat
   ordinate_read [] i l h = absurd (omega arith)
   ordinate_read (n ∷ p) zero l h = ap (f64_at o) (append_assoc (bytes o 8 n) (place o p) rest) ∙ f64_read o n (place o p ++ rest) h.0
@@ -143,7 +143,7 @@ module _ (o : Endian) (d : Dimension) where
       ∙ ap (λ c. give c (k (drop (8 * width d) b))) (coord_at-read o rest d j p h)
       ∙ ap (λ c. give (coord_of d j p) (k c)) after
 
-  pub points-read : (j : Bool) (ps : List Place) → All (IsPlace d) ps → Reads (points o d j (length ps)) (flat (place o) ps) (along d j ps)
+  pub points-read : (j : Bool) (ps : List Place) → AllByRecursion (IsPlace d) ps → Reads (points o d j (length ps)) (flat (place o) ps) (along d j ps)
   unfolding points flat along
   points-read j [] h k rest = refl
   points-read j (p ∷ ps) h k rest =
@@ -161,7 +161,7 @@ prepend-twice : (xs ys : List Coord) (r : Run) → prepend xs (prepend ys r) ≡
 prepend-twice xs ys r = ap (λ cs. record { coords = cs; ending = r.ending }) (sym (append_assoc xs ys r.coords))
 
 module _ {A : Type 0} (r : Reader → Reader) (P : A → Type 0) (f : A → List ℕ) (g : A → List Coord) (one : (a : A) → P a → Reads r (f a) (g a)) where
-  pub times-read : (l : List A) → All P l → Reads (times r (length l)) (flat f l) (flat g l)
+  pub times-read : (l : List A) → AllByRecursion P l → Reads (times r (length l)) (flat f l) (flat g l)
   unfolding times flat
   times-read [] h k rest = refl
   times-read (a ∷ l) h k rest =
@@ -238,7 +238,7 @@ aline_read : (o : Endian) (d : Dimension) (part : Reader → Reader) (ps : List 
 unfolding body
 aline_read o d part ps h = line_read o d ps h
 
-polygon-read : (o : Endian) (d : Dimension) (part : Reader → Reader) (rs : List (List Place)) → length rs < 2 ^ 32 → All (IsRing d) rs → Reads (body o d part Polygon) (bytes o 4 (length rs) ++ flat (ring o) rs) (flat (along d false) rs)
+polygon-read : (o : Endian) (d : Dimension) (part : Reader → Reader) (rs : List (List Place)) → length rs < 2 ^ 32 → AllByRecursion (IsRing d) rs → Reads (body o d part Polygon) (bytes o 4 (length rs) ++ flat (ring o) rs) (flat (along d false) rs)
 unfolding body
 polygon-read o d part rs l h = many_read o (line o d) (length rs) (flat (ring o) rs) (flat (along d false) rs) l (times-read (line o d) (IsRing d) (ring o) (along d false) (line_read o d) rs h)
 

@@ -2,7 +2,7 @@
 use Rattle.std.specs.Prelude.{◌≡◌, ℕ, ◌<◌, T, List, [], ◌∷◌, map, Some, None, Option, Float}
 use Rattle.std.specs.Float.{nan, binary64}
 use Rattle.std.specs.Float.Ieee.{fits}
-use Rattle.std.specs.List.{AllByRecursion as All}
+use Rattle.std.specs.List.{AllByRecursion}
 use Rattle.shapes.specs.declared.code.Code.{Code}
 use Rattle.shapes.specs.declared.code.Dimension.{Dimension}
 use Rattle.shapes.specs.declared.code.Dimension.TheVariants.{Xy, Xyz, Xym, Xyzm}
@@ -31,7 +31,7 @@ Lacks Xyzm c = Unit {0}
 
 -- so it is in every coordinate to come
 abbrev pub LacksAxes : Shape → Type 0
-LacksAxes s = All (Lacks s.code.dim) s.coords
+LacksAxes s = AllByRecursion (Lacks s.code.dim) s.coords
 
 -- ---- the layer that exchanges x and y
 

@@ -1,6 +1,6 @@
 -- The steps of a cursor between two coordinates.
 use Rattle.std.specs.Prelude.{◌≡◌, ℕ, ◌+◌, ◌-◌, ◌<◌, ◌≤◌, true, false, List, [], ◌∷◌, ◌++◌, length, Some, None, Option, slice_index}
-use Rattle.std.specs.List.{AllByRecursion as All}
+use Rattle.std.specs.List.{AllByRecursion}
 use Rattle.shapes.specs.declared.endian.Endian.{Endian}
 use Rattle.shapes.specs.declared.code.Kind.{Kind}
 use Rattle.shapes.specs.declared.coord.Coord.{Coord}
@@ -70,10 +70,10 @@ pub record Took (a : Cursor) (h : Hulls) (b : Cursor) : Type 0 where
   pub first : Coord
   pub others : List Coord
   pub run : still a ≡ first ∷ (others ++ still b)
-  pub joined : All (λ c. c.joins ≡ true) others
+  pub joined : AllByRecursion (λ c. c.joins ≡ true) others
   pub ended : Fresh (still b)
   pub hulls : four h ≡ with_all none (first ∷ others)
-  pub held : All InBinary64 (still a)
+  pub held : AllByRecursion InBinary64 (still a)
   pub code : b.code ≡ a.code
 
 -- the next run of a, or nothing is to come

@@ -1,7 +1,7 @@
 -- Shapes as trees, what each is written as, and the law that bytes are read exactly when they are a writing of a tree.
 use Rattle.std.specs.Prelude.{◌≡◌, ℕ, zero, suc, ◌+◌, ◌/◌, ◌%◌, ◌^◌, ◌<◌, ◌≤◌, max, Bool, true, false, List, [], ◌∷◌, ◌++◌, reverse, length, from_bits, slice_index, Float}
 use Rattle.std.specs.Float.{nan, binary64}
-use Rattle.std.specs.List.{AllByRecursion as All}
+use Rattle.std.specs.List.{AllByRecursion}
 use Rattle.shapes.specs.declared.endian.Endian.{Endian}
 use Rattle.shapes.specs.declared.endian.Endian.TheVariants.{Big, Little}
 use Rattle.shapes.specs.declared.code.Kind.{Kind}
@@ -137,10 +137,10 @@ unfoldable mutual
 -- ---- well-formed trees
 
 abbrev pub IsPlace : Dimension → Place → Type 0
-IsPlace d p = (length p ≡ width d) × All (λ n. n < 2 ^ 64) p
+IsPlace d p = (length p ≡ width d) × AllByRecursion (λ n. n < 2 ^ 64) p
 
 abbrev pub IsRing : Dimension → List Place → Type 0
-IsRing d ps = (length ps < 2 ^ 32) × All (IsPlace d) ps
+IsRing d ps = (length ps < 2 ^ 32) × AllByRecursion (IsPlace d) ps
 
 abbrev pub MayHold : Parts → Kind → Type 0
 MayHold points k = k ≡ Point
@@ -152,7 +152,7 @@ unfoldable mutual
   pub Good : Dimension → Tree → Type 0
   Good d (point o p) = IsPlace d p
   Good d (line o ps) = IsRing d ps
-  Good d (polygon o rs) = (length rs < 2 ^ 32) × All (IsRing d) rs
+  Good d (polygon o rs) = (length rs < 2 ^ 32) × AllByRecursion (IsRing d) rs
   Good d (group o g ts) = (many ts < 2 ^ 32) × GoodAll d g ts
 
   pub GoodAll : Dimension → Parts → Trees → Type 0

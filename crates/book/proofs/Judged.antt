@@ -1,5 +1,5 @@
 -- The parts of a verdict, put together.
-use Rattle.std.proofs.Common.{◌≡◌, ℕ, Bool, true, false, cond, not, ◌&&◌, ◌||◌, T, List, Some, None, Ok, Err, Option, Result, sym, refl, ap, ◌∙◌, subst, arith}
+use Rattle.std.proofs.Common.{◌≡◌, ℕ, Bool, true, false, cond, not, ◌&&◌, T, List, Some, None, Ok, Err, Option, Result, sym, refl, ap, ◌∙◌, subst, arith}
 use lib.Ieee.{Float, le, lt, is_nan}
 use Rattle.number.specs.Values.{Held}
 use Rattle.interval.specs.declared.fault.Fault.{Fault}

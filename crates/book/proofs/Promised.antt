@@ -1,5 +1,5 @@
 -- The two promises, of every standing whose ordinates an f64 holds.
-use Rattle.std.proofs.Common.{◌≡◌, ℕ, zero, suc, ◌+◌, Bool, true, false, cond, T, ltb, ◌⊎◌, List, [], ◌∷◌, ◌++◌, map, length, get_or, Some, None, Ok, Err, Option, Result, sym, refl, ap, ◌∙◌, subst, inl, inr, arith}
+use Rattle.std.proofs.Common.{◌≡◌, ℕ, zero, suc, Bool, true, false, cond, T, ltb, List, [], ◌∷◌, length, get_or, Some, None, Ok, Err, Option, Result, sym, refl, subst, inl, inr, arith}
 use mathlib.Core.List.Memᴰ
 use mathlib.Core.List.{Memᴰ}
 use lib.Ieee.{Float}
@@ -14,7 +14,7 @@ use Rattle.shapes.specs.Source.{Shape}
 use Rattle.bounding.specs.Runs.{Run, Axis, hull, runs_of, xs, ys, zs, ms}
 use Rattle.bounding.specs.Record.{record_of}
 use Rattle.bounding.specs.Told.{Told, told}
-use Rattle.bounding.specs.Laws.{HasValue, Covers, CoversAll, HeldShapes, HeldEnds, AlikeTold, merged_from, together}
+use Rattle.bounding.specs.Laws.{HasValue, Covers, CoversAll, HeldShapes, HeldEnds, AlikeTold, together}
 use Rattle.bounding.proofs.Gathers.{merges_pages}
 use Rattle.bounding.proofs.Covers.{hull-none, run-find, tells-covering}
 use Rattle.bounding.proofs.Ordinates.{keeps-held}
@@ -22,7 +22,7 @@ use Rattle.bounding.proofs.Alikes.{tells-members}
 use Rattle.book.specs.declared.states.Target.{Target}
 use Rattle.book.specs.declared.states.Target.TheVariants.{Page, Column}
 use Rattle.book.specs.Standing.{Standing}
-use Rattle.book.specs.Windows.{Frame, HullMeets, IfAsked, RunMeets, Shares, SharesAll}
+use Rattle.book.specs.Windows.{HullMeets, IfAsked, Shares}
 use Rattle.book.specs.Promises.{on, record_at, tells, SkippedHoldsNoMeetingRun, ColumnIgnoresOrderAndCopies}
 
 -- ---- what is told of a target is told of its shapes

@@ -1,24 +1,20 @@
 -- One call of a list, and the list so far.
-use Rattle.std.proofs.Common.{◌≡◌, ℕ, ◌+◌, ◌<◌, ◌≤◌, Bool, ◌≢◌, List, [], ◌∷◌, ◌++◌, map, length, get_or, take, drop, set, Ok, Err, Result, sym, refl, ap, ◌∙◌, subst, add-zero, arith, below_more}
+use Rattle.std.proofs.Common.{◌≡◌, ℕ, ◌+◌, ◌<◌, Bool, ◌≢◌, List, [], ◌∷◌, ◌++◌, map, length, get_or, take, drop, set, Ok, Err, Result, sym, refl, ap, ◌∙◌, subst, add-zero, arith, below_more}
 use Rattle.std.proofs.lemmas.List.{get_or-drop, get_or_default, map_more, drop-drop, drop-set-lt, get_or-set_same, get_or-set_other}
 use Rattle.interval.specs.declared.fault.Fault.{Fault}
 use Rattle.interval.specs.Laws.{Set}
 use Rattle.interval.specs.Pairs.{Pair}
 use Rattle.shapes.specs.Source.{Shape}
 use Rattle.bounding.specs.declared.records.PageRecord.{PageRecord}
-use Rattle.bounding.specs.Laws.{HeldShapes, together}
 use Rattle.book.specs.declared.held.Book.{Book}
 use Rattle.book.specs.declared.requests.Request.{Request}
 use Rattle.book.specs.declared.requests.Request.TheVariants.{Opening}
 use Rattle.book.specs.declared.requests.Reply.{Reply}
-use Rattle.book.specs.declared.requests.Reply.TheVariants as Reply
-use Rattle.book.specs.declared.states.Deed.{Deed}
 use Rattle.book.specs.Answers.{given, added, returned}
 use Rattle.book.specs.Keeping.{KeptBy, Step, Written, size, hint_of}
 use Rattle.book.specs.Replay.{called, reply, Replies, Runs, after_first}
 use Rattle.book.specs.Replied.{slipped, spent}
 use Rattle.book.specs.Standing.{Standing, Call, start, run, step, standing}
-use Rattle.book.proofs.Moves.{run-push}
 
 -- ---- replies
 pub slipped-given : {D : Type 0} (p : ℕ) (v : Result D Fault) → slipped (given p v) ≡ reply (Reply.Opened p) v

@@ -5,7 +5,6 @@ use Rattle.shapes.specs.Wkb.{Decoded, read, refused}
 use Rattle.bounding.specs.declared.records.Answer.{Answer}
 use Rattle.bounding.specs.Told.{Told}
 use Rattle.bounding.specs.Walk.{answer}
-use Rattle.book.specs.declared.states.Deed.{Deed}
 use Rattle.book.specs.declared.states.Slip.{Slip}
 use Rattle.book.specs.Standing.{Brought}
 

@@ -1,5 +1,5 @@
 -- The two promises about what stands, for every window and every list of the same shapes.
-use Rattle.std.specs.Prelude.{◌≡◌, ℕ, cond, List, [], ◌∷◌, map, length, Ok, Err, Result, nat_lt, slice_index_or}
+use Rattle.std.specs.Prelude.{◌≡◌, cond, List, [], map, length, Ok, Err, Result, nat_lt, slice_index_or}
 use mathlib.Core.List.{Memᴰ}
 use Rattle.interval.specs.declared.fault.Cause.TheVariants.{NoSuchPage}
 use Rattle.interval.specs.declared.fault.Fault.{Fault}

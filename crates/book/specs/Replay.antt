@@ -11,7 +11,6 @@ use Rattle.bounding.specs.Told.{Told}
 use Rattle.book.specs.declared.requests.Request.{Request}
 use Rattle.book.specs.declared.requests.Request.TheVariants.{Opening, Retaking, Adding, AddingBytes, Closing, Discarding, Telling, Sifting}
 use Rattle.book.specs.declared.requests.Reply.{Reply}
-use Rattle.book.specs.declared.requests.Reply.TheVariants as Reply
 use Rattle.book.specs.declared.states.Asked.TheVariants.{Open, Retake, Add, Close, Discard}
 use Rattle.book.specs.declared.states.Target.TheVariants.{Column}
 use Rattle.book.specs.declared.states.Verdict.{Verdict}

@@ -2,7 +2,6 @@
 use Rattle.std.specs.Prelude.{ℕ, Ok, Err, Result}
 use Rattle.interval.specs.declared.fault.Fault.{Fault}
 use Rattle.book.specs.declared.requests.Reply.{Reply}
-use Rattle.book.specs.declared.requests.Reply.TheVariants as Reply
 use Rattle.book.specs.declared.states.Slip.{Slip}
 
 abbrev pub slipped : Result Slip Fault → Reply

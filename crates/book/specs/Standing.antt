@@ -1,5 +1,5 @@
 -- What stands on the pages, from the table's length and the calls alone.
-use Rattle.std.specs.Prelude.{ℕ, Bool, cond, List, [], ◌∷◌, ◌++◌, length, Some, None, Ok, Err, Option, Result, ◌==◌, nat_lt, slice_set}
+use Rattle.std.specs.Prelude.{ℕ, cond, List, [], ◌∷◌, ◌++◌, length, Some, None, Ok, Err, Option, Result, ◌==◌, nat_lt, slice_set}
 use Rattle.interval.specs.declared.fault.Cause.TheVariants.{WrongSlip, PageOpen, TableFull, NoSuchPage}
 use Rattle.interval.specs.declared.fault.Fault.{Fault}
 use Rattle.interval.specs.Faults.{at, on_page}

@@ -1,5 +1,5 @@
 -- Windows, by the values that they cover, and what meets them.
-use Rattle.std.specs.Prelude.{◌≡◌, ℕ, Bool, Some, None, Ok, Err, Option, Result}
+use Rattle.std.specs.Prelude.{◌≡◌, Bool, Some, None, Ok, Err, Option, Result}
 use Rattle.interval.specs.declared.fault.Fault.{Fault}
 use Rattle.interval.specs.declared.kinds.Interval.{Interval}
 use Rattle.interval.specs.Faults.{on_page}

@@ -1,17 +1,17 @@
 -- What is told of records that are equal as numbers.
-use Rattle.std.proofs.Common.{◌≡◌, Bool, true, false, cond, not, ◌&&◌, ◌||◌, T, List, Some, None, sym, refl, subst, arith}
+use Rattle.std.proofs.Common.{◌≡◌, Bool, true, false, cond, not, ◌&&◌, ◌||◌, T, List, Some, None, subst, arith}
 use mathlib.Core.Bool.{beq}
-use lib.Ieee.{Float, inf, binary64, add, sub, eq, le, lt, is_nan}
+use lib.Ieee.{Float, inf, binary64, sub, eq}
 use lib.Ieee.Fits.{inf-fits}
 use Rattle.number.specs.Values.{Held, Same}
 use Rattle.number.proofs.Plain.{eq-is_les}
 use Rattle.number.proofs.Order.{order, same_refl, le_same, lt_same}
 use Rattle.number.proofs.Arith.{add-held, sub_held, add_same, sub_same}
 use Rattle.interval.specs.Pairs.{Pair, pair, empty, width}
-use Rattle.interval.specs.Ordinary.{merged, contains}
+use Rattle.interval.specs.Ordinary.{merged}
 use Rattle.shapes.specs.Source.{Shape}
-use Rattle.bounding.specs.Runs.{runs_of, xs, ys, zs, ms}
-use Rattle.bounding.specs.Record.{Kept, record_of, divide, below, above, across, every}
+use Rattle.bounding.specs.Runs.{runs_of, xs}
+use Rattle.bounding.specs.Record.{Kept, record_of, divide, below, above, across}
 use Rattle.bounding.specs.Told.{all, outer, ordinary, told_x, shown, told}
 use Rattle.bounding.specs.Laws.{HeldEnds, HeldKept, HeldShapes, SameMembers, Alike, AlikeKept, AlikeShown, AlikeTold, TellsMembers}
 use Rattle.bounding.proofs.Merging.{Plain, Into, merged-plain_right, into_left, into_right, into_merged, into_trans}

@@ -1,12 +1,12 @@
 -- Sets of bits.
-use Rattle.std.proofs.Common.{◌≡◌, ℕ, zero, suc, ◌+◌, ◌*◌, ◌/◌, ◌%◌, ◌^◌, ◌<◌, ◌≤◌, max, List, [], ◌∷◌, ◌++◌, sym, refl, ap, ◌∙◌, subst, ap₂, mod-lt, arith, lit<}
+use Rattle.std.proofs.Common.{◌≡◌, ℕ, zero, suc, ◌/◌, ◌%◌, ◌^◌, ◌<◌, ◌≤◌, List, [], ◌∷◌, ◌++◌, sym, refl, ap, ◌∙◌, subst, mod-lt, arith, lit<}
 use mathlib.Core.List.{Memᴰ}
 use lib.Arith.{bin_ind}
 use Rattle.shapes.specs.declared.code.Code.{Code}
 use Rattle.shapes.specs.declared.code.Kind.{Kind}
 use Rattle.shapes.specs.declared.code.Dimension.{Dimension}
 use Rattle.shapes.specs.Codes.{kind_number, dim_number}
-use lib.Bits.{bit_or, or_step, or_shr, or_mod, or_comm, or_self, or_zero_l, or_lt}
+use lib.Bits.{bit_or, or_shr, or_mod, or_comm, or_self, or_zero_l, or_lt}
 use Rattle.std.proofs.lemmas.Nat.{div-add-mod', pow_below}
 use Rattle.shapes.specs.Source.{Shape}
 use Rattle.bounding.specs.Record.{place, codes_of}

@@ -1,9 +1,9 @@
 -- What is told covers the runs.
-use Rattle.std.proofs.Common.{◌≡◌, ℕ, Bool, true, false, cond, not, ◌&&◌, ◌||◌, T, ◌⊎◌, List, [], ◌∷◌, Some, None, sym, refl, ap, ◌∙◌, subst, ap₂, inl, inr, arith}
+use Rattle.std.proofs.Common.{◌≡◌, ℕ, Bool, true, false, cond, not, ◌||◌, T, ◌⊎◌, List, [], ◌∷◌, Some, None, sym, refl, ap, ◌∙◌, subst, ap₂, inl, inr}
 use mathlib.Core.List.{Memᴰ}
 use mathlib.Core.Bool.{beq}
 use lib.Dec.{not_T}
-use lib.Ieee.{Float, inf, sub, eq, le, lt, is_nan, fits}
+use lib.Ieee.{Float, sub, eq, le, lt, is_nan, fits}
 use lib.Ieee.Fits.{and_i, and_l, and_r}
 use lib.Ieee.Bits.{is_false}
 use Rattle.number.specs.Values.{Held}
@@ -15,9 +15,9 @@ use Rattle.shapes.specs.declared.coord.Coord.{Coord}
 use Rattle.shapes.specs.Source.{Shape}
 use Rattle.bounding.specs.Runs.{Run, Axis, runs_of, hull, gather, xs, ys, zs, ms}
 use Rattle.bounding.specs.Record.{Kept, kept_of, record_of, divide, codes_of, below, above, across, every}
-use Rattle.bounding.specs.Told.{all, outer, ordinary, told_x, shown, Told, told}
+use Rattle.bounding.specs.Told.{all, outer, ordinary, told_x, shown, told}
 use Rattle.bounding.specs.Laws.{HeldEnds, HeldKept, HasValue, Covers, CoversAll}
-use Rattle.bounding.proofs.Merging.{Number, Plain, Into, picked, nothing-plain, nothing-merged, merged-nothing, nan-merged, merged-plain_right, into_left, into_right, into_trans}
+use Rattle.bounding.proofs.Merging.{Number, Into, picked, nothing-plain, nothing-merged, merged-nothing, nan-merged, merged-plain_right, into_left, into_right, into_trans}
 use Rattle.bounding.proofs.Gathers.{hull-plain, gather-plain, hull-into}
 
 pub no : (b : Bool) → b ≡ false → T b → ⊥

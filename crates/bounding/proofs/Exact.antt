@@ -7,7 +7,7 @@ use Rattle.interval.specs.Pairs.{Pair, pair}
 use Rattle.interval.specs.Ordinary.{merged}
 use Rattle.shapes.specs.declared.coord.Coord.{Coord}
 use Rattle.bounding.specs.Runs.{Run, Axis, joining, later, runs, hull}
-use Rattle.bounding.specs.Laws.{HasValue, Attained, Hulled, HullsExact, Joined, Begun, concat, RunsExact}
+use Rattle.bounding.specs.Laws.{HasValue, Attained, HullsExact, Joined, Begun, concat, RunsExact}
 use Rattle.bounding.proofs.Merging.{Number, picked, nan-merged, merged-nothing}
 use Rattle.bounding.proofs.Gathers.{hull-plain}
 use Rattle.bounding.proofs.Covers.{hull-value, hull-none, run-find}

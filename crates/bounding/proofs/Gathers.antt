@@ -9,7 +9,7 @@ use Rattle.interval.specs.Ordinary.{merged}
 use Rattle.shapes.specs.Source.{Shape}
 use Rattle.bounding.specs.Runs.{Run, Axis, runs, runs_of, hull, gather, xs, ys, zs, ms}
 use Rattle.bounding.specs.Record.{Kept, record_of, divide, below, above, across, every}
-use Rattle.bounding.specs.Laws.{MergesLists, MergesPages, merged_from, together, Alike, SameMembers, KeepsMembers}
+use Rattle.bounding.specs.Laws.{MergesLists, MergesPages, merged_from, together, Alike, KeepsMembers}
 use Rattle.bounding.proofs.BitSets.{codes-append, codes_same}
 use Rattle.bounding.proofs.Merging.{Plain, Into, merged-assoc, nothing-plain, nothing-merged, merged-plain_right, into_left, into_right, into_merged, into_trans, nothing-into}
 

@@ -1,5 +1,5 @@
 -- The codes of a set, place by place.
-use Rattle.std.proofs.Common.{◌≡◌, ℕ, zero, suc, ◌+◌, ◌-◌, ◌/◌, ◌%◌, ◌<◌, ◌≤◌, Bool, true, false, cond, eqb, List, [], ◌∷◌, ◌++◌, sym, refl, ap, ◌∙◌, append_assoc, append-nil, add-one, arith}
+use Rattle.std.proofs.Common.{◌≡◌, ℕ, suc, ◌+◌, ◌-◌, ◌/◌, ◌%◌, ◌<◌, ◌≤◌, false, cond, eqb, List, [], ◌∷◌, ◌++◌, sym, refl, ap, ◌∙◌, append_assoc, add-one, arith}
 use Rattle.bounding.specs.Numbers.{number_at, listed}
 
 step : (n p b : ℕ) → listed (suc n) p b ≡ cond (eqb (b % 2) 1) (number_at p ∷ listed n (suc p) (b / 2)) (listed n (suc p) (b / 2))

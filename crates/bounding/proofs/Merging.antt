@@ -1,7 +1,6 @@
 -- Pairs merged: exact laws, for pairs of any floats.
-use Rattle.std.proofs.Common.{◌≡◌, Bool, true, false, cond, not, ◌&&◌, ◌||◌, T, refl, ap₂, arith}
-use lib.Ieee.{Float, inf, le, is_nan}
-use Rattle.std.specs.Float.{float_min, float_max}
+use Rattle.std.proofs.Common.{◌≡◌, Bool, true, false, cond, not, ◌||◌, T, ap₂, arith}
+use lib.Ieee.{Float, le, is_nan}
 use Rattle.number.proofs.Plain.{le_trans, le_refl, le_left, le_right, le_total, least_assoc, most_assoc, least_nan_left, most_nan_left, lowest-le, le-highest, least_highest, most_lowest, highest-least, lowest-most}
 use Rattle.interval.specs.Pairs.{Pair, pair, nothing}
 use Rattle.interval.specs.Ordinary.{merged}

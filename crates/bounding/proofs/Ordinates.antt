@@ -1,7 +1,7 @@
 -- The ends of a record are ordinates of its shapes, so an f64 holds them.
 use Rattle.std.proofs.Common.{◌≡◌, Bool, true, false, cond, List, [], ◌∷◌, refl, subst}
 use mathlib.Core.List.{Memᴰ}
-use lib.Ieee.{Float, fits}
+use lib.Ieee.{fits}
 use Rattle.number.specs.Values.{Held}
 use Rattle.interval.specs.Pairs.{Pair, pair, nothing}
 use Rattle.interval.specs.Ordinary.{merged}

@@ -1,24 +1,23 @@
 -- What is told of x can be taken by a kind that wraps.
-use Rattle.std.proofs.Common.{◌≡◌, ℕ, Bool, true, false, cond, not, ◌&&◌, ◌||◌, T, ◌⊎◌, List, [], ◌∷◌, Some, None, sym, refl, ap, ◌∙◌, subst, inl, inr, arith}
-use lib.Ieee.{Float, nan, inf, fin, binary64, add, sub, div, eq, le, lt, is_nan}
+use Rattle.std.proofs.Common.{◌≡◌, ℕ, Bool, true, false, cond, ◌&&◌, T, ◌⊎◌, List, [], ◌∷◌, Some, None, sym, refl, ap, ◌∙◌, subst, inl, inr, arith}
+use lib.Ieee.{Float, nan, inf, fin, binary64, add, sub, div, eq, le, lt}
 use lib.Ieee.Fits.{and_l, and_r}
 use Rattle.std.specs.Float.{float_is_finite}
 use Rattle.number.specs.Values.{Held}
-use Rattle.number.proofs.Order.{order}
 use Rattle.number.proofs.Arith.{sub-lowest, sub-highest}
-use Rattle.number.proofs.Plain.{le_trans, le_of_lt, lt_irrefl, lt_of_lt_of_le, lt_of_le_of_lt}
+use Rattle.number.proofs.Plain.{le_trans, le_of_lt, lt_of_lt_of_le, lt_of_le_of_lt}
 use Rattle.interval.specs.Pairs.{Pair, pair, empty, width, wraps}
-use Rattle.interval.specs.Ordinary.{merged, contains, middle, half, too_wide}
+use Rattle.interval.specs.Ordinary.{merged, middle, half, too_wide}
 use Rattle.interval.specs.Laws.{refusal}
 use Rattle.interval.proofs.Wraps.{wraps-is, narrower}
 use Rattle.shapes.specs.Source.{Shape}
 use Rattle.bounding.specs.Runs.{Run, Axis, runs_of, hull, gather, xs}
-use Rattle.bounding.specs.Record.{Kept, kept_of, record_of, divide, codes_of, below, above, across}
-use Rattle.bounding.specs.Told.{all, ordinary, told_x, shown, told}
+use Rattle.bounding.specs.Record.{kept_of, record_of, divide, codes_of, below, above, across}
+use Rattle.bounding.specs.Told.{ordinary, told_x, shown, told}
 use Rattle.bounding.specs.Laws.{HeldEnds, HeldKept, HasValue, Takable}
-use Rattle.bounding.proofs.Merging.{Number, Plain, Into, nothing-merged, merged-plain_right, into_left}
+use Rattle.bounding.proofs.Merging.{Plain, nothing-merged, merged-plain_right, into_left}
 use Rattle.bounding.proofs.Gathers.{hull-plain, gather-plain, hull-into}
-use Rattle.bounding.proofs.Covers.{no, HeldThree, empty-nothing, upright, raised, hull-none, run-find, find, Sided, on_left, on_right, amid, sided, lefts, mids, rights, whole, left-whole, right-whole, hull-whole, whole-none, Halved, halved, lefts-below, rights-above}
+use Rattle.bounding.proofs.Covers.{no, HeldThree, empty-nothing, upright, raised, hull-none, run-find, find, on_left, on_right, amid, sided, lefts, mids, rights, whole, left-whole, right-whole, hull-whole, whole-none, Halved, halved, lefts-below, rights-above}
 
 -- ---- the hint
 no_above : (b : Float) → T (lt (inf false) b) → ⊥

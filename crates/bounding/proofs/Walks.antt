@@ -1,5 +1,5 @@
 -- The walk over a shape's coordinates gives its record.
-use Rattle.std.proofs.Common.{◌≡◌, ℕ, ◌^◌, Bool, true, false, cond, List, [], ◌∷◌, ◌++◌, sym, refl, ap, ◌∙◌, subst, ap₂, append-nil}
+use Rattle.std.proofs.Common.{◌≡◌, ℕ, ◌^◌, Bool, true, false, cond, List, [], ◌∷◌, sym, refl, ap, ◌∙◌, subst, ap₂, append-nil}
 use lib.Bits.{bit_or, or_zero_r}
 use lib.Ieee.{Float}
 use Rattle.interval.specs.Pairs.{Pair, pair, nothing}

@@ -2,7 +2,7 @@
 use Rattle.std.specs.Prelude.{◌≡◌, ℕ, cond, List, [], ◌∷◌, ◌++◌, Some, None, Option, bit_or, Float}
 use Rattle.interval.specs.declared.kinds.Interval.{Interval}
 use Rattle.interval.specs.declared.kinds.WraparoundInterval.{WraparoundInterval}
-use Rattle.interval.specs.Pairs.{Pair, pair, ends, inner_ends, nothing}
+use Rattle.interval.specs.Pairs.{Pair, ends, inner_ends, nothing}
 use Rattle.interval.specs.Ordinary.{merged, with_value}
 use Rattle.shapes.specs.declared.coord.Coord.{Coord}
 use Rattle.shapes.specs.Source.{Shape}

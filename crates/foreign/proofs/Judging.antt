@@ -1,23 +1,22 @@
 -- Windows and records that were handed, and the verdict on them.
-use Rattle.std.proofs.Common.{◌≡◌, ℕ, ◌^◌, Bool, true, false, cond, not, ◌&&◌, ◌||◌, T, eqb, ltb, ◌⊎◌, List, [], ◌∷◌, ◌++◌, Some, None, Ok, Err, Option, Result, sym, refl, ap, ◌∙◌, subst, inl, inr, append-nil, arith, MatchResult}
+use Rattle.std.proofs.Common.{◌≡◌, ℕ, ◌^◌, Bool, true, false, cond, ◌&&◌, ◌||◌, T, eqb, ltb, List, [], ◌∷◌, Some, None, Ok, Err, Option, Result, sym, refl, ap, ◌∙◌, subst, inl, inr, append-nil, arith, MatchResult}
 use mathlib.Core.List.{Memᴰ}
-use lib.Ieee.{Float, nan, inf, fin, binary64, le, eq, is_nan, sub, add, neg}
+use lib.Ieee.{Float, nan, inf, fin, eq, is_nan, sub, add, neg}
 use Rattle.interval.specs.declared.fault.Fault.{Fault}
 use Rattle.interval.specs.declared.kinds.Interval.{Interval}
 use Rattle.interval.specs.Pairs.{Pair, pair, ends, between, nothing, same, empty, width}
-use Rattle.interval.specs.Laws.{Set, Common, Equal, refusal}
+use Rattle.interval.specs.Laws.{Set, Equal, refusal}
 use Rattle.shapes.specs.Source.{Shape}
-use Rattle.bounding.specs.Runs.{Run, runs_of}
 use Rattle.bounding.specs.Record.{Kept, record_of}
 use Rattle.bounding.specs.Told.{Told, told}
-use Rattle.bounding.specs.Laws.{HeldShapes, together}
+use Rattle.bounding.specs.Laws.{together}
 use Rattle.bounding.specs.Walk.{optional}
 use Rattle.book.specs.declared.states.Target.TheVariants.{Page, Column}
 use Rattle.book.specs.declared.states.State.TheVariants.{Idle}
 use Rattle.book.specs.declared.states.Verdict.{Verdict}
 use Rattle.book.specs.declared.states.Verdict.TheVariants.{Skip, Keep}
 use Rattle.book.specs.Standing.{Standing}
-use Rattle.book.specs.Windows.{Frame, Firm, Shares, SharesAll, IfAsked, RunMeets, Decides, Tested, TestedX, optional_set}
+use Rattle.book.specs.Windows.{Frame, Firm, Shares, SharesAll, IfAsked, Decides, Tested, TestedX, optional_set}
 use Rattle.book.specs.Verdicts.{Upright, UprightIf, optional_pair}
 use Rattle.book.proofs.Promised.{skips-soundly}
 use Rattle.foreign.specs.declared.raw.RawPair.{RawPair}

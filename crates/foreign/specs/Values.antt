@@ -1,5 +1,5 @@
 -- The plain structs as the library's definitions have them.
-use Rattle.std.specs.Prelude.{ℕ, ◌%◌, ◌^◌, Bool, true, false, cond, ◌&&◌, ◌||◌, Some, None, Option, ◌==◌, nat_le, nat_lt, Float}
+use Rattle.std.specs.Prelude.{◌%◌, ◌^◌, Bool, true, false, cond, ◌&&◌, ◌||◌, Some, None, Option, ◌==◌, nat_le, nat_lt, Float}
 use Rattle.std.specs.Float.Ieee.{le}
 use Rattle.interval.specs.Pairs.{Pair, pair, between, stored, nothing, same}
 use Rattle.interval.specs.Laws.{Set}

@@ -1,12 +1,12 @@
 -- The laws of the values from lo to hi, for what `Interval` answers.
-use Rattle.std.proofs.Common.{◌≡◌, Bool, true, false, not, ◌&&◌, ◌||◌, T, refl, arith}
+use Rattle.std.proofs.Common.{◌≡◌, Bool, true, false, T, refl, arith}
 use lib.Ieee.{Float, nan, inf, fin, lt, le, is_nan}
 use Rattle.std.specs.Float.{float_zero, float_is_finite}
 use Rattle.number.specs.Values.{Held, Value}
 use Rattle.number.proofs.Order.{order, lowest-le, le-highest, least_le, le-most}
 use Rattle.number.proofs.Arith.{zero_held, zero_number, sub-le, le-add, add-held, sub_held}
 use Rattle.interval.specs.Pairs.{Pair, pair, between, stored, nothing, everything}
-use Rattle.interval.specs.Laws.{Inside, Inhabited, Common, Meets, Merges, Adds, Everything}
+use Rattle.interval.specs.Laws.{Inside, Common, Meets, Merges, Adds, Everything}
 use Rattle.interval.specs.Ordinary as Ordinary
 
 -- an f64 holds each end

@@ -1,18 +1,18 @@
 -- The laws of what `WraparoundInterval` answers.
-use Rattle.std.proofs.Common.{◌≡◌, Bool, true, false, cond, not, ◌&&◌, ◌||◌, T, sym, refl, ◌∙◌, arith}
+use Rattle.std.proofs.Common.{◌≡◌, Bool, true, false, cond, ◌&&◌, ◌||◌, T, refl, arith}
 use lib.Ieee.{Float, inf, binary64, sub, eq, lt, le, is_nan}
 use lib.Ieee.Fits.{inf-fits}
-use Rattle.std.specs.Float.{float_zero, float_is_finite, float_min, float_max}
+use Rattle.std.specs.Float.{float_min, float_max}
 use Rattle.number.specs.Values.{Held, Value}
 use Rattle.number.proofs.Order.{order, lowest-le, le-highest, least_held, most_held, least_le, le-most}
-use Rattle.interval.specs.Pairs.{Pair, pair, between, sides, empty, wraps, covered, nothing, everything}
-use Rattle.interval.specs.Laws.{Inside, Inhabited, Common, Meets, Contains, Merges, Adds, Expands}
+use Rattle.interval.specs.Pairs.{Pair, pair, between, sides, empty, wraps, covered}
+use Rattle.interval.specs.Laws.{Inside, Inhabited, Common, Contains, Merges, Adds, Expands}
 use Rattle.interval.specs.Ordinary as Ordinary
 use Rattle.interval.specs.Wraparound as Wraparound
 use Rattle.interval.specs.Wraparound.{left, right, closed, widens_lower, widened, merged, with_value, expanded}
 use Rattle.interval.proofs.Between as Between
 use Rattle.interval.proofs.Between.{Ends, upward, common}
-use Rattle.interval.proofs.Wraps.{downward, numbers, narrower, covered-sides, covered-between, between-covered, empty-covers, full_covers, gap_inner, closed-covers}
+use Rattle.interval.proofs.Wraps.{numbers, narrower, covered-sides, covered-between, between-covered, empty-covers, full_covers, gap_inner, closed-covers}
 
 -- ---- intersects_interval
 meets-comm : (p q : Pair) → Wraparound.meets p q ≡ Wraparound.meets q p

@@ -1,8 +1,7 @@
 -- When a pair wraps, and what it then covers.
-use Rattle.std.proofs.Common.{◌≡◌, Bool, true, false, cond, not, ◌&&◌, ◌||◌, T, sym, refl, ◌∙◌, arith}
+use Rattle.std.proofs.Common.{◌≡◌, Bool, true, false, cond, not, ◌&&◌, ◌||◌, T, refl, ◌∙◌, arith}
 use lib.Ieee.{Float, inf, binary64, sub, eq, lt, le, is_nan}
 use lib.Ieee.Fits.{inf-fits}
-use Rattle.std.specs.Float.{float_zero}
 use Rattle.number.specs.Values.{Held, Value}
 use Rattle.number.proofs.Order.{order, lowest-le, le-highest}
 use Rattle.number.proofs.Arith.{sub-below, sub-lowest, sub-lowest_ends}

@@ -1,5 +1,5 @@
 -- Shapes as trees, what each is written as, and the law that bytes are read exactly when they are a writing of a tree.
-use Rattle.std.specs.Prelude.{◌≡◌, ℕ, zero, suc, ◌+◌, ◌/◌, ◌%◌, ◌^◌, ◌<◌, ◌≤◌, max, Bool, true, false, List, [], ◌∷◌, ◌++◌, reverse, length, from_bits, slice_index, Float}
+use Rattle.std.specs.Prelude.{◌≡◌, ℕ, zero, suc, ◌/◌, ◌%◌, ◌^◌, ◌<◌, ◌≤◌, max, Bool, true, false, List, [], ◌∷◌, ◌++◌, reverse, length, from_bits, slice_index, Float}
 use Rattle.std.specs.Float.{nan, binary64}
 use Rattle.std.specs.List.{AllByRecursion}
 use Rattle.shapes.specs.declared.endian.Endian.{Endian}

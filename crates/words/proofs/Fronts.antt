@@ -1,7 +1,7 @@
 -- Texts of bytes, two hexadecimal digits each.
-use Rattle.std.proofs.Common.{◌≡◌, ℕ, ◌+◌, ◌*◌, ◌/◌, ◌<◌, ◌≤◌, ◌⊎◌, List, [], ◌∷◌, ◌++◌, length, get_or, codes, sym, ap, ◌∙◌, subst, inl, inr, eq-or-lt_of_le, arith}
+use Rattle.std.proofs.Common.{◌≡◌, ℕ, ◌+◌, ◌*◌, ◌/◌, ◌<◌, ◌⊎◌, List, [], ◌∷◌, ◌++◌, length, get_or, codes, sym, ap, ◌∙◌, subst, inl, inr, eq-or-lt_of_le, arith}
 use Rattle.std.proofs.lemmas.List.{get_or_append_left, get_or_push, length_push}
-use Rattle.words.specs.Bytes.{HexOf, StandsFor, TwoDigits}
+use Rattle.words.specs.Bytes.{StandsFor, TwoDigits}
 
 -- the first n pairs of digits of ds write the bytes bs
 abbrev pub Front : List ℕ → ℕ → List ℕ → Type 0

@@ -3,7 +3,7 @@ use Rattle.shapes.specs.Wkb.{decode}
 use Rattle.book.specs.declared.requests.Request.TheVariants.{Opening, Retaking, Adding, AddingBytes, Closing, Discarding, Telling, Sifting}
 use Rattle.book.specs.declared.requests.Reply.TheVariants as Reply
 use Rattle.book.specs.declared.states.Asked.TheVariants.{Add}
-use Rattle.book.specs.Answers.{added, brought_by}
+use Rattle.book.specs.Answers.{brought_by}
 use Rattle.book.specs.Replay.{reply}
 use Rattle.book.specs.Replied.{slipped, spent}
 use Rattle.book.specs.Keeping.{size}

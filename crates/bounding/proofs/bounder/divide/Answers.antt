@@ -1,5 +1,4 @@
 use Rattle.std.proofs.Common.{arith}
-use Rattle.interval.specs.Pairs.{ends}
 use Rattle.interval.proofs.Literals.{highest-bits}
 use Rattle.bounding.specs.Record.{divide}
 use Rattle.bounding.proofs.bounder.divide.Goals as goal

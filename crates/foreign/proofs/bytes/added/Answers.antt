@@ -1,7 +1,6 @@
-use Rattle.std.proofs.Common.{◌≡◌, ◌++◌, Option, sym, refl, ap, ◌∙◌}
+use Rattle.std.proofs.Common.{Option, ap, ◌∙◌}
 use Rattle.interval.specs.Pairs.{ends}
 use Rattle.shapes.specs.Wkb.{decode}
-use Rattle.bounding.specs.Record.{record_of}
 use Rattle.foreign.specs.Calls.{before, byte_refusal, shapes_in}
 use Rattle.foreign.specs.Values.{raw_record}
 use Rattle.foreign.specs.declared.refusals.Refusal.{Refusal}

@@ -1,4 +1,4 @@
-use Rattle.std.proofs.Common.{◌≡◌, Option, sym, ap, ◌∙◌}
+use Rattle.std.proofs.Common.{Option, sym, ap, ◌∙◌}
 use lib.Ieee.{Float}
 use Rattle.interval.specs.Pairs.{Pair, between}
 use Rattle.book.specs.Verdicts.{optional_pair, window_refusal}

@@ -2,7 +2,7 @@ use Rattle.std.proofs.Common.{◌≡◌, length, get_or, Option, ap, ◌∙◌, 
 use Rattle.interval.specs.Pairs.{Pair, ends}
 use Rattle.foreign.specs.declared.refusals.Refusal.{Refusal}
 use Rattle.foreign.specs.Calls.{PageBytes, SkipsSoundly, verdicts_refusal}
-use Rattle.foreign.specs.Statuses.{Unless, fault_after, refusal_of, returned}
+use Rattle.foreign.specs.Statuses.{Unless, fault_after, returned}
 use Rattle.foreign.specs.Values.{frame, pair_of, wraps}
 use Rattle.foreign.proofs.Judging.{byte_skips, finished, unless_weaker}
 use Rattle.foreign.proofs.verdicts.pagebounds_verdicts.Goals as goal

@@ -1,4 +1,4 @@
-use Rattle.std.proofs.Common.{true, false, Some, None, eq-eqb, ne_eqb}
+use Rattle.std.proofs.Common.{false, Some, None, ne_eqb}
 use Rattle.std.proofs.lemmas.Result.{MatchResult-weaker}
 use Rattle.interval.specs.Pairs.{ends}
 use Rattle.foreign.proofs.Judging.{one-kind}

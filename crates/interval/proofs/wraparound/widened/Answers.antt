@@ -1,4 +1,4 @@
-use Rattle.std.proofs.Common.{◌≡◌, true, false, ◌∙◌, arith}
+use Rattle.std.proofs.Common.{◌≡◌, true, false, arith}
 use Rattle.interval.specs.Pairs.{ends}
 use Rattle.interval.specs.Wraparound.{widened, widens_lower}
 use Rattle.interval.proofs.wraparound.widened.Goals as goal

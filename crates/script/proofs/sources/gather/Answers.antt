@@ -1,4 +1,4 @@
-use Rattle.std.proofs.Common.{◌≡◌, List, [], ◌∷◌, ◌++◌, vec_items, sym, ap, ◌∙◌, append_assoc}
+use Rattle.std.proofs.Common.{List, [], ◌∷◌, ◌++◌, vec_items, sym, ap, ◌∙◌, append_assoc}
 use Rattle.shapes.specs.declared.coord.Coord.{Coord}
 use Rattle.script.proofs.sources.gather.Goals as goal
 

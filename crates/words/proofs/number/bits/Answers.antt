@@ -1,5 +1,5 @@
 -- What `from_str_radix` ensures, where no plus stands in front.
-use Rattle.std.proofs.Common.{◌≡◌, ℕ, Bool, length, get_or, Option, sym, subst, rules}
+use Rattle.std.proofs.Common.{◌≡◌, ℕ, length, get_or, Option, sym, subst, rules}
 use Rattle.std.proofs.lemmas.Str.Pattern.{starts_char}
 use Rattle.std.proofs.lemmas.Bool.{both_ways}
 use Rattle.words.specs.Readings.{ReadsHex}

@@ -1,4 +1,4 @@
-use Rattle.std.proofs.Common.{◌≡◌, ℕ, ◌+◌, ◌<◌, List, [], length, set, Ok, Err, sym, refl, ap, ◌∙◌, subst, length-set, rules}
+use Rattle.std.proofs.Common.{◌≡◌, ℕ, ◌+◌, ◌<◌, [], length, set, Ok, Err, sym, refl, ap, ◌∙◌, subst, length-set, rules}
 use Rattle.interval.specs.Pairs.{ends}
 use Rattle.bounding.specs.declared.records.PageRecord.{PageRecord}
 use Rattle.bounding.specs.Walk.{kept}

@@ -1,9 +1,8 @@
-use Rattle.std.proofs.Common.{◌≡◌, ℕ, ◌≤◌, map, length, get_or, take, Ok, Err, sym, refl, ap, ◌∙◌, ap₂, arith, rules}
+use Rattle.std.proofs.Common.{◌≡◌, ℕ, ◌≤◌, map, length, get_or, take, Ok, Err, sym, refl, ap, ◌∙◌, arith, rules}
 use native.Mathlib.Nat.{sub-zero}
 use Rattle.interval.specs.declared.fault.Fault.{Fault}
 use Rattle.interval.specs.declared.kinds.Interval.{Interval}
 use Rattle.interval.specs.Pairs.{ends}
-use Rattle.bounding.specs.Record.{Kept}
 use Rattle.bounding.specs.Told.{Told, told}
 use Rattle.bounding.specs.Laws.{merged_from}
 use Rattle.bounding.specs.Walk.{kept, answer, empty_record}

@@ -1,6 +1,5 @@
-use Rattle.std.proofs.Common.{◌≡◌, ◌^◌, List, [], ◌∷◌, sym, refl, ap, ◌∙◌, subst, ap₂, rules}
+use Rattle.std.proofs.Common.{◌≡◌, ◌^◌, List, [], ◌∷◌, sym, ap, ◌∙◌, subst, rules}
 use mathlib.Core.List.{Memᴰ}
-use lib.Bits.{bit_or}
 use lib.Ieee.{Float}
 use Rattle.interval.specs.Pairs.{ends}
 use Rattle.shapes.specs.declared.coord.Coord.{Coord}

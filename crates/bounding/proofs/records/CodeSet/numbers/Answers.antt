@@ -1,4 +1,4 @@
-use Rattle.std.proofs.Common.{◌≡◌, ℕ, ◌+◌, ◌-◌, ◌/◌, List, ◌++◌, vec_items, sym, ap, ◌∙◌, append-nil}
+use Rattle.std.proofs.Common.{ℕ, ◌+◌, ◌-◌, ◌/◌, List, ◌++◌, vec_items, sym, ap, ◌∙◌, append-nil}
 use Rattle.bounding.specs.Numbers.{listed}
 use Rattle.bounding.proofs.Listing.{listed-none, listed_in, listed-out}
 use Rattle.bounding.proofs.records.CodeSet.numbers.Goals as goal

@@ -1,5 +1,4 @@
 use Rattle.std.proofs.Common.{◌≡◌, sym, ◌∙◌, ap₂}
-use Rattle.interval.specs.Pairs.{Pair}
 use Rattle.bounding.specs.Record.{Kept, merge}
 use Rattle.bounding.specs.Walk.{kept}
 use Rattle.bounding.specs.Laws.{Together}

@@ -1,4 +1,4 @@
-use Rattle.std.proofs.Common.{◌≡◌, true, false, sym, ◌∙◌, arith}
+use Rattle.std.proofs.Common.{◌≡◌, true, arith}
 use Rattle.interval.specs.Pairs.{wraps, inner_ends}
 use Rattle.interval.proofs.Literals.{highest-bits, lowest-bits}
 use Rattle.interval.proofs.kinds.WraparoundInterval.split.Goals as goal

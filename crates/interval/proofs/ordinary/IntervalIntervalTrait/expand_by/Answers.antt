@@ -1,9 +1,7 @@
-use Rattle.std.proofs.Common.{◌≡◌, true, false, sym, refl, arith, rules}
-use lib.Ieee.{lt, is_nan}
-use Rattle.std.specs.Float.{float_zero}
+use Rattle.std.proofs.Common.{◌≡◌, true, false, arith, rules}
 use Rattle.number.specs.Values.{Held}
 use Rattle.interval.specs.Pairs.{ends}
-use Rattle.interval.specs.Ordinary.{expanded, unmoved, moved}
+use Rattle.interval.specs.Ordinary.{expanded, unmoved}
 use Rattle.interval.proofs.Literals.{zero_bits}
 use Rattle.interval.proofs.Between.{moves}
 use Rattle.interval.proofs.ordinary.IntervalIntervalTrait.expand_by.Goals as goal

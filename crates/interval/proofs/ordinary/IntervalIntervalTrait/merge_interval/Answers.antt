@@ -1,5 +1,4 @@
-use Rattle.interval.specs.Laws.{Merges}
-use Rattle.interval.specs.Pairs.{ends, between}
+use Rattle.interval.specs.Pairs.{ends}
 use Rattle.interval.proofs.Between.{merges}
 use Rattle.interval.proofs.ordinary.IntervalIntervalTrait.merge_interval.Goals as goal
 

@@ -1,6 +1,6 @@
 /* Page bounds for maps: the library for callers in C.
  *
- * Link with libforeign.a (`rt staticlib foreign` makes target/staticlib/libforeign.a). Nothing else is needed: no call
+ * Link with libforeign.a (`rt lib`, run in crates/foreign, makes crates/foreign/out/libforeign.a). Nothing else is needed: no call
  * allocates, keeps a pointer, or has any state, so calls from several threads do not disturb each other.
  *
  * WHAT A CALLER OWES. Every pointer is not null, also where its length is 0, is aligned for its type and points at as many

@@ -1,4 +1,4 @@
-//! Page bounds for maps: the library for callers in Rust, over the static library that `rt staticlib foreign` makes.
+//! Page bounds for maps: the library for callers in Rust, over the static library that `rt lib` makes in crates/foreign.
 //!
 //! No call allocates but [`verdicts`], and none has any state. docs/FOREIGN.md says how to build it.
 

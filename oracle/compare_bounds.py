@@ -188,7 +188,7 @@ def main():
     options.add_argument("--seed", type=int, default=1)
     chosen = options.parse_args()
     if not chosen.program.exists():
-        sys.exit(f"{chosen.program} is not there: run 'rt check pagebook' first")
+        sys.exit(f"{chosen.program} is not there: run 'rt run </dev/null' in crates/pagebook first")
     start = time.monotonic()
     tally = Tally()
     draw = random.Random(chosen.seed)

@@ -7,7 +7,7 @@ import tempfile
 
 HERE = pathlib.Path(__file__).resolve().parent
 ROOT = HERE.parent
-PAGEBOOK = ROOT / "target" / "bin" / "pagebook"
+PAGEBOOK = ROOT / "crates" / "pagebook" / "out" / "pagebook"
 
 
 def build(folder):

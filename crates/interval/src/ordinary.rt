@@ -16,7 +16,7 @@
 // under the License.
 
 // Changed: ported to Rattle from src/interval.rs of parquet-geospatial 60.0.0. `mid` differs where the width overflows; `take`, `same`
-// and the contracts are added.
+// and the contracts are added; `least` and `most` stand for `f64::min` and `f64::max`.
 ghost use Rattle.std.specs.Prelude.{◌≡◌, false, IfOk};
 ghost use Rattle.std.specs.Float.{binary64, float_max, float_min};
 ghost use Rattle.std.specs.Float.Ieee.{of_int};

@@ -1,5 +1,4 @@
 use Rattle.std.proofs.Common.{◌≡◌, ℕ, ◌+◌, ◌<◌, [], length, set, Ok, Err, sym, refl, ap, ◌∙◌, subst, length-set, rules}
-use Rattle.interval.specs.Pairs.{ends}
 use Rattle.bounding.specs.declared.records.PageRecord.{PageRecord}
 use Rattle.bounding.specs.Walk.{kept}
 use Rattle.book.specs.declared.states.Deed.TheVariants.{Begin, Again, Put, Append, Replace, Forget}
@@ -14,14 +13,14 @@ pub returns-in-Ok-Begin : goal.returns-in-Ok-Begin
 returns-in-Ok-Begin c =
     let b = c.args.self.now in
     moved b _ c.args.asked (Ok []) (Ok Begin) _ (said b.state b.closed _ _ c.args.asked (Ok []) (Ok Begin) c.room-room.ensures (search rules))
-    refl (ap ends c.restart.ensures.hint) refl refl (λ s k. refl) (λ s k. begun k [] _ c.restart.ensures.fresh) (λ s k e. ap added (sym e))
+    refl (search rules) refl refl (λ s k. refl) (λ s k. begun k [] _ (search rules)) (λ s k e. ap added (sym e))
 
 pub returns-in-Ok-Again : goal.returns-in-Ok-Again
 returns-in-Ok-Again c =
     let b = c.args.self.now in
     let n = c.in-Ok-Again.n in
     moved b _ c.args.asked (Ok []) (Ok (Again n)) _ (said b.state b.closed _ _ c.args.asked (Ok []) (Ok (Again n)) c.room-room.ensures (search rules))
-    refl (ap ends c.restart-in-Ok-Again.ensures.hint) refl refl (λ s k. refl) (λ s k. begun_again k [] n _ c.restart-in-Ok-Again.ensures.fresh) (λ s k e. ap added (sym e))
+    refl (search rules) refl refl (λ s k. refl) (λ s k. begun_again k [] n _ (search rules)) (λ s k e. ap added (sym e))
 
 pub returns-in-Ok-Put : goal.returns-in-Ok-Put
 returns-in-Ok-Put c =

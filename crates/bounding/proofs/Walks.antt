@@ -1,14 +1,17 @@
 -- The walk over a shape's coordinates gives its record.
-use Rattle.std.proofs.Common.{◌≡◌, ℕ, ◌^◌, Bool, true, false, cond, List, [], ◌∷◌, sym, refl, ap, ◌∙◌, subst, ap₂, append-nil}
+use Rattle.std.proofs.Common.{◌≡◌, ℕ, ◌^◌, Bool, true, false, cond, List, [], ◌∷◌, ◌++◌, sym, refl, ap, ◌∙◌, subst, ap₂, append-nil}
 use lib.Bits.{bit_or, or_zero_r}
 use lib.Ieee.{Float}
+use Rattle.std.specs.List.{AllByRecursion}
 use Rattle.interval.specs.Pairs.{Pair, pair, nothing}
 use Rattle.interval.specs.Ordinary.{merged}
 use Rattle.shapes.specs.declared.coord.Coord.{Coord}
+use Rattle.shapes.specs.Hulls as Whole
 use Rattle.shapes.specs.Source.{Shape}
+use Rattle.shapes.specs.Steps.{Fresh}
 use Rattle.bounding.specs.Runs.{Run, Axis, joining, later, runs, runs_of, hull, gather, xs, ys, zs, ms}
 use Rattle.bounding.specs.Record.{Kept, kept_of, record_of, merge, divide, place, codes_of, below, above, across, every}
-use Rattle.bounding.specs.Walk.{Four, none, with, settle, walk, mark, Adds, empty_record}
+use Rattle.bounding.specs.Walk.{Four, of_run, none, with, settle, walk, mark, Adds, empty_record}
 use Rattle.bounding.proofs.Merging.{Plain, merged-assoc, nothing-plain, nothing-merged, merged-nothing, merged-plain_left, merged-plain_right}
 use Rattle.bounding.proofs.Gathers.{hull-plain, gather-plain, merges}
 
@@ -278,6 +281,72 @@ walk-next t k h c cs l e j = sym (ap (walk t k h) e ∙ other c.joins (walk t k 
 pub walk_end : (t : Float) (k : Kept) (h : Four) (l : List Coord) → l ≡ [] → settle t k h ≡ walk t k h l
 unfolding walk
 walk_end t k h l e = sym (ap (walk t k h) e)
+
+-- ---- whole runs
+
+-- with these coordinates more
+unfoldable pub with_all : Four → List Coord → Four
+with_all h [] = h
+with_all h (c ∷ cs) = with_all (with h c) cs
+
+pub of_run-with_all : (h : Whole.Four) (cs : List Coord) → of_run (Whole.with_all h cs) ≡ with_all (of_run h) cs
+unfolding with_all Whole.with_all
+of_run-with_all h [] = refl
+of_run-with_all h (c ∷ cs) = of_run-with_all (Whole.with h c) cs
+
+-- to settle no run changes nothing
+settle-none : (t : Float) (k : Kept) → PlainKept k → settle t k none ≡ k
+settle-none t k p = λ i. record {
+  left = side (below t nothing) k.left p.left i;
+  mid = side (across t nothing) k.mid p.mid i;
+  right = side (above t nothing) k.right p.right i;
+  y = merged-nothing k.y p.y i;
+  z = merged-nothing k.z p.z i;
+  m = merged-nothing k.m p.m i;
+  codes = k.codes;
+}
+  where
+    side : (b : Bool) (g : Pair) → Plain g → put b g nothing ≡ g
+    side true g G = merged-nothing g G
+    side false g G = refl
+
+pub walk-settled : (t : Float) (k : Kept) (l : List Coord) → PlainKept k → l ≡ [] → k ≡ walk t k none l
+walk-settled t k l p e = sym (settle-none t k p) ∙ walk_end t k none l e
+
+walk-all : (t : Float) (k : Kept) (h : Four) (others rest : List Coord) → AllByRecursion (λ c. c.joins ≡ true) others → walk t k h (others ++ rest) ≡ walk t k (with_all h others) rest
+unfolding with_all
+walk-all t k h [] rest j = refl
+walk-all t k h (c ∷ cs) rest j = sym (walk-join t k h c (cs ++ rest) (c ∷ (cs ++ rest)) refl j.0) ∙ walk-all t k (with h c) cs rest j.1
+
+-- a run may be settled at its end or where the next one begins
+walk-over : (t : Float) (k : Kept) (h : Four) (rest : List Coord) → PlainKept k → Fresh rest → walk t k h rest ≡ walk t (settle t k h) none rest
+walk-over t k h [] p f = sym (walk_end t k h [] refl) ∙ walk-settled t (settle t k h) [] (settle-plain t k h p) refl
+walk-over t k h (c ∷ cs) p f =
+    sym (walk-next t k h c cs (c ∷ cs) refl f)
+    ∙ ap (λ (q : Kept). walk t q (with none c) cs) (sym (settle-none t (settle t k h) (settle-plain t k h p)))
+    ∙ walk-next t (settle t k h) none c cs (c ∷ cs) refl f
+
+walk_first : (t : Float) (k : Kept) (c : Coord) (cs : List Coord) → PlainKept k → walk t k none (c ∷ cs) ≡ walk t k (with none c) cs
+walk_first t k c cs p = go c.joins refl
+  where
+    go : (b : Bool) → c.joins ≡ b → walk t k none (c ∷ cs) ≡ walk t k (with none c) cs
+    go true j = sym (walk-join t k none c cs (c ∷ cs) refl j)
+    go false j = sym (walk-next t k none c cs (c ∷ cs) refl j) ∙ ap (λ (q : Kept). walk t q (with none c) cs) (settle-none t k p)
+
+-- a walk takes a whole run at once, by its hulls
+pub walk-run : (t : Float) (k : Kept) (h : Four) (first : Coord) (others rest l : List Coord) → PlainKept k → l ≡ first ∷ (others ++ rest) → AllByRecursion (λ c. c.joins ≡ true) others → Fresh rest → h ≡ with_all none (first ∷ others) →
+    PlainKept (settle t k h) × (walk t (settle t k h) none rest ≡ walk t k none l)
+unfolding with_all
+walk-run t k h first others rest l p e j f eh = (
+  settle-plain t k h p,
+  sym (ap (walk t k none) e ∙ walk_first t k first (others ++ rest) p ∙ walk-all t k (with none first) others rest j ∙ ap (λ (q : Four). walk t k q rest) (sym eh) ∙ walk-over t k h rest p f),
+)
+
+-- what a walk by whole runs comes to: p is left of k once no coordinate is to come
+pub runs-add : (h : Pair) (k p : Kept) (s : Shape) (t : Float) (rest : List Coord) → (PlainKept k → PlainKept p × (walk t p none rest ≡ walk t k none s.coords)) → rest ≡ [] → t ≡ divide h → Adds h k s (mark p (2 ^ place s.code))
+runs-add h k p s t rest f e d ss er =
+    let q = f (subst PlainKept (sym er) (record-plain h ss)) in
+    ap (λ (l : Kept). mark l (2 ^ place s.code)) (walk-settled t p rest q.0 e ∙ q.1 ∙ ap (λ (z : Float). walk z k none s.coords) d) ∙ walk-adds h k s ss er
 
 -- ---- the record of no shapes
 pub no_shapes : (h : Pair) → empty_record ≡ record_of h []

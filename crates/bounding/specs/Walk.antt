@@ -5,6 +5,7 @@ use Rattle.interval.specs.declared.kinds.WraparoundInterval.{WraparoundInterval}
 use Rattle.interval.specs.Pairs.{Pair, ends, inner_ends, nothing}
 use Rattle.interval.specs.Ordinary.{merged, with_value}
 use Rattle.shapes.specs.declared.coord.Coord.{Coord}
+use Rattle.shapes.specs.Hulls as Whole
 use Rattle.shapes.specs.Source.{Shape}
 use Rattle.shapes.specs.Wkb.{code_at, coords_in, decode, read}
 use Rattle.bounding.specs.Laws.{HeldCoords}
@@ -56,6 +57,10 @@ pub record Four : Type 0 where
 
 abbrev pub four : Hulls → Four
 four h = record { x = ends h.x; y = ends h.y; z = ends h.z; m = ends h.m }
+
+-- the hulls of a run as a cursor gives them
+abbrev pub of_run : Whole.Four → Four
+of_run h = record { x = h.x; y = h.y; z = h.z; m = h.m }
 
 abbrev pub none : Four
 none = record { x = nothing; y = nothing; z = nothing; m = nothing }

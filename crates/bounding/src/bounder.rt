@@ -23,6 +23,7 @@ ghost use Rattle.shapes.specs.Wkb.{decode, refused};
 ghost use Rattle.bounding.specs.Laws.{HeldCoords, Tells};
 ghost use Rattle.bounding.specs.Numbers.{numbers};
 ghost use Rattle.bounding.specs.Record as Record;
+ghost use Rattle.shapes.specs.Hulls as Whole;
 ghost use Rattle.bounding.specs.Told as Told;
 ghost use Rattle.bounding.specs.Walk as Walk;
 ghost use Rattle.bounding.specs.Walk.{Adds, Counts, kept};
@@ -31,6 +32,18 @@ use crate::records::{Answer, Hulls, PageRecord};
 use interval::{Fault, Interval, IntervalTrait, WraparoundInterval};
 use shapes::{Cursor, ShapeSource};
 use std::alloc::{AllocError, Global};
+
+// The hulls that a cursor gave of a whole run.
+fn hulls_of(run: &shapes::Hulls) -> Hulls
+    ensures { Walk.four result ≡ Walk.of_run (Whole.four run.now) }
+{
+    Hulls {
+        x: run.x,
+        y: run.y,
+        z: run.z,
+        m: run.m,
+    }
+}
 
 // A new bounder: no shape was added yet, and its hint can be set.
 #[derive(Drop)]
@@ -117,7 +130,18 @@ impl CountingBounder {
     {
         let checked = shapes::check(bytes)?;
         let mut cursor = Cursor::new(checked);
-        self.update_source(&mut cursor);
+        let code = cursor.code();
+        let middle = divide(&self.hint);
+        let mut page = self.kept;
+        while let Some(run) = cursor.next_run() {
+            let run_hulls = hulls_of(&run);
+            page = page.settled(middle, &run_hulls);
+        }
+        let counted = PageRecord {
+            codes: page.codes.with(code),
+            ..page
+        };
+        self.kept = counted;
         Ok(())
     }
 

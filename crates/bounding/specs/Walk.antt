@@ -1,4 +1,4 @@
--- The program's values as the definitions have them, and its one walk over a shape's coordinates, which keeps four hulls.
+-- The program's values as the definitions have them, and the walk over a shape's coordinates, which keeps four hulls.
 use Rattle.std.specs.Prelude.{◌≡◌, ℕ, cond, List, [], ◌∷◌, ◌++◌, Some, None, Option, bit_or, Float}
 use Rattle.interval.specs.declared.kinds.Interval.{Interval}
 use Rattle.interval.specs.declared.kinds.WraparoundInterval.{WraparoundInterval}

@@ -16,7 +16,8 @@
 // under the License.
 
 // Changed: ported to Rattle from src/bounding.rs of parquet-geospatial 60.0.0. A bounder that counts is a type of its own, so that a hint
-// can only be set before the first shape. Shapes come from checked bytes or from any source, in one walk that keeps four hulls.
+// can only be set before the first shape. Shapes come from checked bytes, by whole runs, or from
+// any source, in one walk that keeps four hulls.
 ghost use Rattle.std.specs.Prelude.{◌≡◌, [], IfOk, MatchResult};
 ghost use Rattle.interval.specs.Pairs.{ends, inner_ends, nothing};
 ghost use Rattle.shapes.specs.Wkb.{decode, refused};

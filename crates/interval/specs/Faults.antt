@@ -1,7 +1,9 @@
--- The numbers and layers of the causes of a refusal, and what a refusal holds.
+-- The numbers of the causes of a refusal and of the layers that refuse, and what a refusal holds.
 use Rattle.std.specs.Prelude.{ℕ, Some, None}
 use Rattle.interval.specs.declared.fault.Cause.{Cause}
 use Rattle.interval.specs.declared.fault.Cause.TheVariants.{Truncated, ByteOrder, TypeCode, PartType, TooDeep, TrailingBytes, WrongSlip, PageOpen, TableFull, NoSuchPage, NanEnd, Downward, TableCode}
+use Rattle.interval.specs.declared.fault.Layer.{Layer}
+use Rattle.interval.specs.declared.fault.Layer.TheVariants.{Bytes, ShapeTable, Book, Window}
 use Rattle.interval.specs.declared.fault.Fault.{Fault}
 
 abbrev pub number : Cause → ℕ
@@ -19,21 +21,27 @@ number NanEnd = 11
 number Downward = 12
 number TableCode = 13
 
--- 1 is the bytes, 2 the shape table, 3 the book, 4 the window
-abbrev pub layer : Cause → ℕ
-layer Truncated = 1
-layer ByteOrder = 1
-layer TypeCode = 1
-layer PartType = 1
-layer TooDeep = 1
-layer TrailingBytes = 1
-layer WrongSlip = 3
-layer PageOpen = 3
-layer TableFull = 3
-layer NoSuchPage = 3
-layer NanEnd = 4
-layer Downward = 4
-layer TableCode = 2
+-- what refuses: the bytes, the shape table, the book or the window
+abbrev pub layer : Cause → Layer
+layer Truncated = Bytes
+layer ByteOrder = Bytes
+layer TypeCode = Bytes
+layer PartType = Bytes
+layer TooDeep = Bytes
+layer TrailingBytes = Bytes
+layer WrongSlip = Book
+layer PageOpen = Book
+layer TableFull = Book
+layer NoSuchPage = Book
+layer NanEnd = Window
+layer Downward = Window
+layer TableCode = ShapeTable
+
+abbrev pub layer_number : Layer → ℕ
+layer_number Bytes = 1
+layer_number ShapeTable = 2
+layer_number Book = 3
+layer_number Window = 4
 
 -- a refusal where no page was added
 abbrev pub at : Cause → ℕ → Fault

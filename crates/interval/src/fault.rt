@@ -4,60 +4,65 @@ ghost use Rattle.interval.specs.Faults as Faults;
 
 use std::fmt;
 
-// The causes of a refusal, in the order of their numbers.
+// The causes of a refusal, each with its number.
 #[derive(Clone, Copy, PartialEq, Eq, Debug)]
 pub enum Cause {
     // a field is not there whole
-    Truncated,
+    Truncated = 1,
     // an order byte is neither 0 nor 1
-    ByteOrder,
+    ByteOrder = 2,
     // a type code is not one of the 28
-    TypeCode,
+    TypeCode = 3,
     // a part does not fit its container
-    PartType,
+    PartType = 4,
     // a part would stand on level 33
-    TooDeep,
+    TooDeep = 5,
     // bytes follow the finished shape
-    TrailingBytes,
+    TrailingBytes = 6,
     // the slip is not for the open page
-    WrongSlip,
+    WrongSlip = 7,
     // a page is open already
-    PageOpen,
+    PageOpen = 8,
     // no usable record is free
-    TableFull,
+    TableFull = 9,
     // no closed page has that number
-    NoSuchPage,
+    NoSuchPage = 10,
     // a pair has a NaN end
-    NanEnd,
+    NanEnd = 11,
     // a pair goes down, and its kind cannot hold it
-    Downward,
+    Downward = 12,
     // a shape table's code is not one of the 28
-    TableCode,
+    TableCode = 13,
+}
+
+// What refused, each with its number.
+#[derive(Clone, Copy, PartialEq, Eq, Debug)]
+pub enum Layer {
+    Bytes = 1,
+    ShapeTable = 2,
+    Book = 3,
+    Window = 4,
+}
+
+impl From<Cause> for u8 {
+    ghost from_gives = { λ c n. n ≡ Faults.number c };
+
+    fn from(cause: Cause) -> u8 {
+        cause as u8
+    }
+}
+
+impl From<Layer> for u8 {
+    ghost from_gives = { λ l n. n ≡ Faults.layer_number l };
+
+    fn from(layer: Layer) -> u8 {
+        layer as u8
+    }
 }
 
 impl Cause {
-    pub fn number(self) -> u8
-        ensures { result ≡ Faults.number self }
-    {
-        match self {
-            Cause::Truncated => 1,
-            Cause::ByteOrder => 2,
-            Cause::TypeCode => 3,
-            Cause::PartType => 4,
-            Cause::TooDeep => 5,
-            Cause::TrailingBytes => 6,
-            Cause::WrongSlip => 7,
-            Cause::PageOpen => 8,
-            Cause::TableFull => 9,
-            Cause::NoSuchPage => 10,
-            Cause::NanEnd => 11,
-            Cause::Downward => 12,
-            Cause::TableCode => 13,
-        }
-    }
-
-    // 1 is the bytes, 2 the shape table, 3 the book, 4 the window.
-    pub fn layer(self) -> u8
+    // What refuses for this cause.
+    pub fn layer(self) -> Layer
         ensures { result ≡ Faults.layer self }
     {
         match self {
@@ -66,10 +71,12 @@ impl Cause {
             | Cause::TypeCode
             | Cause::PartType
             | Cause::TooDeep
-            | Cause::TrailingBytes => 1,
-            Cause::TableCode => 2,
-            Cause::WrongSlip | Cause::PageOpen | Cause::TableFull | Cause::NoSuchPage => 3,
-            Cause::NanEnd | Cause::Downward => 4,
+            | Cause::TrailingBytes => Layer::Bytes,
+            Cause::TableCode => Layer::ShapeTable,
+            Cause::WrongSlip | Cause::PageOpen | Cause::TableFull | Cause::NoSuchPage => {
+                Layer::Book
+            }
+            Cause::NanEnd | Cause::Downward => Layer::Window,
         }
     }
 }
@@ -97,17 +104,16 @@ impl Fault {
         ensures { result ≡ Faults.on_page self page }
     {
         Fault {
-            cause: self.cause,
-            place: self.place,
             page: Some(page),
+            ..self
         }
     }
 }
 
 impl fmt::Display for Fault {
     fn fmt<W: fmt::Write>(&self, f: &mut fmt::Formatter<W>) -> fmt::Result {
-        let number = self.cause.number();
-        let layer = self.cause.layer();
+        let number = u8::from(self.cause);
+        let layer = u8::from(self.cause.layer());
         let place = self.place;
         match self.page {
             None => write!(f, "refused {number} layer {layer} place {place}"),

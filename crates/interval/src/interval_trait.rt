@@ -15,8 +15,8 @@
 // specific language governing permissions and limitations
 // under the License.
 
-// Changed: ported to Rattle from src/interval.rs of parquet-geospatial 60.0.0. Added are `take`, the constant `WRAPS` with its
-// function, the ghost members and the contracts.
+// Changed: ported to Rattle from src/interval.rs of parquet-geospatial 60.0.0. Added are `take`, the constant `WRAPS`, the
+// ghost members and the contracts.
 ghost use Rattle.std.specs.Prelude.{◌≡◌, Bool, Float};
 ghost use Rattle.interval.specs.Laws.{Adds, Contains, Everything, Expands, Meets, Merges, Nothing, Spans, Taken};
 ghost use Rattle.interval.specs.Pairs.{pair};
@@ -28,21 +28,17 @@ pub trait IntervalTrait: Sized {
     // Whether a pair with lo above hi can mean the two sides, the values from lo on and those up to hi.
     const WRAPS: bool;
 
-    ghost wrapping: { Bool };
+    ghost WRAPS: { Bool };
 
     // The values that are covered, as a test.
     ghost covers: { Self → Float → Bool };
-
-    // The constant, as a function that a contract can speak of.
-    fn kind_wraps() -> bool
-        ensures { result ≡ wrapping };
 
     fn new(lo: f64, hi: f64) -> Self
         ensures { Spans lo hi (covers result) };
 
     // Bounds from a stored pair, or the refusal of a NaN end or of a downward pair that the kind cannot hold.
     fn take(lo: f64, hi: f64) -> Result<Self, Fault>
-        ensures { Taken wrapping covers (pair lo hi) result };
+        ensures { Taken WRAPS covers (pair lo hi) result };
 
     fn empty() -> Self
         ensures { Nothing (covers result) };

@@ -17,9 +17,11 @@
 
 // Changed: ported to Rattle from src/interval.rs of parquet-geospatial 60.0.0. `mid` differs where the width overflows; `take`, `same`
 // and the contracts are added; `least` and `most` stand for `f64::min` and `f64::max`.
-ghost use Rattle.std.specs.Prelude.{◌≡◌, false, IfOk};
+ghost use Rattle.std.specs.Prelude.{◌≡◌, true, false, cond, ◌||◌, IfOk, MatchResult, is_nan};
 ghost use Rattle.std.specs.Float.{binary64, float_max, float_min};
 ghost use Rattle.std.specs.Float.Ieee.{of_int};
+ghost use Rattle.interval.specs.Faults.{at};
+ghost use Rattle.interval.specs.declared.fault.Cause.TheVariants.{NanEnd};
 ghost use Rattle.interval.specs.Laws.{Adds, Contains, Everything, Expands, Meets, Merges, Nothing, Spans, Taken};
 ghost use Rattle.interval.specs.Ordinary as Ordinary;
 ghost use Rattle.interval.specs.Pairs as Pairs;
@@ -44,6 +46,19 @@ pub(crate) fn most(x: f64, y: f64) -> f64
 }
 
 impl Interval {
+    // The pair of these ends, or the refusal of a NaN end.
+    pub(crate) fn of_numbers(lo: f64, hi: f64) -> Result<Interval, Fault>
+        ensures { MatchResult result (λ i. (is_nan lo ≡ false) × (is_nan hi ≡ false) × (ends i ≡ pair lo hi)) (λ f. ((is_nan lo || is_nan hi) ≡ true) × (f ≡ at NanEnd (cond (is_nan lo) 0 1))) }
+    {
+        if lo.is_nan() {
+            return Err(Fault::new(Cause::NanEnd, 0));
+        }
+        if hi.is_nan() {
+            return Err(Fault::new(Cause::NanEnd, 1));
+        }
+        Ok(Interval::new(lo, hi))
+    }
+
     // Widens these bounds to hold the others too. A NaN end is ignored.
     pub fn update_interval(&mut self, other: &Self)
         ensures { ends self.new ≡ Ordinary.merged (ends self.old) (ends other.now) }
@@ -93,13 +108,9 @@ impl From<(i32, i32)> for Interval {
 impl IntervalTrait for Interval {
     const WRAPS: bool = false;
 
-    ghost wrapping = { false };
+    ghost WRAPS = { false };
 
     ghost covers = { λ s. between (ends s) };
-
-    fn kind_wraps() -> bool {
-        Self::WRAPS
-    }
 
     fn new(lo: f64, hi: f64) -> Self
         ensures law { Spans lo hi (between (ends result)) }
@@ -112,16 +123,11 @@ impl IntervalTrait for Interval {
         ensures law { Taken false (λ s. between (ends s)) (pair lo hi) result }
         ensures exact { IfOk result (λ s. ends s ≡ pair lo hi) }
     {
-        if lo.is_nan() {
-            return Err(Fault::new(Cause::NanEnd, 0));
-        }
-        if hi.is_nan() {
-            return Err(Fault::new(Cause::NanEnd, 1));
-        }
+        let pair = Interval::of_numbers(lo, hi)?;
         if hi < lo {
             return Err(Fault::new(Cause::Downward, 0));
         }
-        Ok(Self::new(lo, hi))
+        Ok(pair)
     }
 
     fn empty() -> Self
@@ -161,7 +167,7 @@ impl IntervalTrait for Interval {
     fn is_wraparound(&self) -> bool
         ensures { result ≡ false }
     {
-        Self::kind_wraps()
+        Self::WRAPS
     }
 
     fn intersects_value(&self, value: f64) -> bool

@@ -112,10 +112,7 @@ impl From<(f64, f64)> for WraparoundInterval {
 
     fn from(value: (f64, f64)) -> Self {
         WraparoundInterval {
-            inner: Interval {
-                lo: value.0,
-                hi: value.1,
-            },
+            inner: Interval::from(value),
         }
     }
 }
@@ -125,10 +122,7 @@ impl From<(i32, i32)> for WraparoundInterval {
 
     fn from(value: (i32, i32)) -> Self {
         WraparoundInterval {
-            inner: Interval {
-                lo: value.0 as f64,
-                hi: value.1 as f64,
-            },
+            inner: Interval::from(value),
         }
     }
 }
@@ -144,13 +138,9 @@ impl From<Interval> for WraparoundInterval {
 impl IntervalTrait for WraparoundInterval {
     const WRAPS: bool = true;
 
-    ghost wrapping = { true };
+    ghost WRAPS = { true };
 
     ghost covers = { λ s. covered (inner_ends s) };
-
-    fn kind_wraps() -> bool {
-        Self::WRAPS
-    }
 
     fn new(lo: f64, hi: f64) -> Self
         ensures law { Spans lo hi (covered (inner_ends result)) }
@@ -165,13 +155,7 @@ impl IntervalTrait for WraparoundInterval {
         ensures law { Taken true (λ s. covered (inner_ends s)) (pair lo hi) result }
         ensures exact { IfOk result (λ s. inner_ends s ≡ pair lo hi) }
     {
-        if lo.is_nan() {
-            return Err(Fault::new(Cause::NanEnd, 0));
-        }
-        if hi.is_nan() {
-            return Err(Fault::new(Cause::NanEnd, 1));
-        }
-        let inner = Interval { lo, hi };
+        let inner = Interval::of_numbers(lo, hi)?;
         if (hi < lo) & inner.is_empty() {
             return Err(Fault::new(Cause::Downward, 0));
         }

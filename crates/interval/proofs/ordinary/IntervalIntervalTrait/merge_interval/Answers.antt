@@ -2,9 +2,9 @@ use Rattle.interval.specs.Pairs.{ends}
 use Rattle.interval.proofs.Between.{merges}
 use Rattle.interval.proofs.ordinary.IntervalIntervalTrait.merge_interval.Goals as goal
 
-pub returns : goal.returns
-returns c =
+pub returns-clause-law : goal.returns-clause-law
+returns-clause-law c =
     let s = c.args.self.now in
     let o = c.args.other.now in
     let e = c.update_interval.ensures in
-    record { law = rw e (merges (ends s) (ends o) s.held o.held); exact = e }
+    rw e (merges (ends s) (ends o) s.held o.held)

@@ -4,10 +4,10 @@ use Rattle.interval.specs.Pairs.{ends}
 use Rattle.interval.proofs.Between.{adds}
 use Rattle.interval.proofs.ordinary.IntervalIntervalTrait.merge_value.Goals as goal
 
-pub returns : goal.returns
-returns c =
+pub returns-clause-law : goal.returns-clause-law
+returns-clause-law c =
     let s = c.args.self.now in
     let v = c.args.value in
     let h : Held v = search rules in
     let e = c.update_value.ensures in
-    record { law = rw e (adds (ends s) v s.held h); exact = e }
+    rw e (adds (ends s) v s.held h)

@@ -1,5 +1,5 @@
 use Rattle.interval.proofs.Wraps.{covers-none}
 use Rattle.interval.proofs.wraparound.WraparoundIntervalIntervalTrait.empty.Goals as goal
 
-pub returns : goal.returns
-returns c = let e = c.empty.ensures.exact in record { law = rw e covers-none; exact = e }
+pub returns-clause-law : goal.returns-clause-law
+returns-clause-law c = let e = c.empty.ensures.exact in rw e covers-none

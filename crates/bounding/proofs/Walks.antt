@@ -6,12 +6,12 @@ use Rattle.std.specs.List.{AllByRecursion}
 use Rattle.interval.specs.Pairs.{Pair, pair, nothing}
 use Rattle.interval.specs.Ordinary.{merged}
 use Rattle.shapes.specs.declared.coord.Coord.{Coord}
-use Rattle.shapes.specs.Hulls as Whole
+use Rattle.shapes.specs.Hulls.{Four, none, with, with_all}
 use Rattle.shapes.specs.Source.{Shape}
 use Rattle.shapes.specs.Steps.{Fresh}
 use Rattle.bounding.specs.Runs.{Run, Axis, joining, later, runs, runs_of, hull, gather, xs, ys, zs, ms}
 use Rattle.bounding.specs.Record.{Kept, kept_of, record_of, merge, divide, place, codes_of, below, above, across, every}
-use Rattle.bounding.specs.Walk.{Four, of_run, none, with, settle, walk, mark, Adds, empty_record}
+use Rattle.bounding.specs.Walk.{settle, walk, mark, Adds, empty_record}
 use Rattle.bounding.proofs.Merging.{Plain, merged-assoc, nothing-plain, nothing-merged, merged-nothing, merged-plain_left, merged-plain_right}
 use Rattle.bounding.proofs.Gathers.{hull-plain, gather-plain, merges}
 
@@ -283,16 +283,6 @@ unfolding walk
 walk_end t k h l e = sym (ap (walk t k h) e)
 
 -- ---- whole runs
-
--- with these coordinates more
-unfoldable pub with_all : Four → List Coord → Four
-with_all h [] = h
-with_all h (c ∷ cs) = with_all (with h c) cs
-
-pub of_run-with_all : (h : Whole.Four) (cs : List Coord) → of_run (Whole.with_all h cs) ≡ with_all (of_run h) cs
-unfolding with_all Whole.with_all
-of_run-with_all h [] = refl
-of_run-with_all h (c ∷ cs) = of_run-with_all (Whole.with h c) cs
 
 -- to settle no run changes nothing
 settle-none : (t : Float) (k : Kept) → PlainKept k → settle t k none ≡ k

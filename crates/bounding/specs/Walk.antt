@@ -1,18 +1,17 @@
--- The program's values as the definitions have them, and the walk over a shape's coordinates, which keeps four hulls.
+-- The program's values as the definitions have them, and the walk over a shape's coordinates, which keeps the four hulls of the run that is read.
 use Rattle.std.specs.Prelude.{◌≡◌, ℕ, cond, List, [], ◌∷◌, ◌++◌, Some, None, Option, bit_or, Float}
 use Rattle.interval.specs.declared.kinds.Interval.{Interval}
 use Rattle.interval.specs.declared.kinds.WraparoundInterval.{WraparoundInterval}
 use Rattle.interval.specs.Pairs.{Pair, ends, inner_ends, nothing}
-use Rattle.interval.specs.Ordinary.{merged, with_value}
+use Rattle.interval.specs.Ordinary.{merged}
 use Rattle.shapes.specs.declared.coord.Coord.{Coord}
-use Rattle.shapes.specs.Hulls as Whole
+use Rattle.shapes.specs.Hulls.{Four, none, with}
 use Rattle.shapes.specs.Source.{Shape}
 use Rattle.shapes.specs.Wkb.{code_at, coords_in, decode, read}
 use Rattle.bounding.specs.Laws.{HeldCoords}
 use Rattle.bounding.specs.Record.{Kept, record_of, below, above, across}
 use Rattle.bounding.specs.Told.{Told}
 use Rattle.bounding.specs.declared.records.PageRecord.{PageRecord}
-use Rattle.bounding.specs.declared.records.Hulls.{Hulls}
 use Rattle.bounding.specs.declared.records.Answer.{Answer}
 
 abbrev pub kept : PageRecord → Kept
@@ -47,26 +46,6 @@ abbrev pub Counts : Pair → Kept → List ℕ → Kept → Type 0
 Counts h k b l = (decode b ≡ read (code_at b) (coords_in b)) × Adds h k (record { code = code_at b; coords = coords_in b }) l × HeldCoords (coords_in b)
 
 -- ---- the walk
-
--- the hulls of the run that is read
-pub record Four : Type 0 where
-  pub x : Pair
-  pub y : Pair
-  pub z : Pair
-  pub m : Pair
-
-abbrev pub four : Hulls → Four
-four h = record { x = ends h.x; y = ends h.y; z = ends h.z; m = ends h.m }
-
--- the hulls of a run as a cursor gives them
-abbrev pub of_run : Whole.Four → Four
-of_run h = record { x = h.x; y = h.y; z = h.z; m = h.m }
-
-abbrev pub none : Four
-none = record { x = nothing; y = nothing; z = nothing; m = nothing }
-
-abbrev pub with : Four → Coord → Four
-with h c = record { x = with_value h.x c.x; y = with_value h.y c.y; z = with_value h.z c.z; m = with_value h.m c.m }
 
 -- a run with these hulls is over
 abbrev pub settle : Float → Kept → Four → Kept

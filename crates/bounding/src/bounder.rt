@@ -24,27 +24,14 @@ ghost use Rattle.shapes.specs.Wkb.{decode, refused};
 ghost use Rattle.bounding.specs.Laws.{HeldCoords, Tells};
 ghost use Rattle.bounding.specs.Numbers.{numbers};
 ghost use Rattle.bounding.specs.Record as Record;
-ghost use Rattle.shapes.specs.Hulls as Whole;
 ghost use Rattle.bounding.specs.Told as Told;
 ghost use Rattle.bounding.specs.Walk as Walk;
 ghost use Rattle.bounding.specs.Walk.{Adds, Counts, kept};
 
-use crate::records::{Answer, Hulls, PageRecord};
+use crate::records::{Answer, PageRecord};
 use interval::{Fault, Interval, IntervalTrait, WraparoundInterval};
-use shapes::{Cursor, ShapeSource};
+use shapes::{Cursor, Hulls, ShapeSource};
 use std::alloc::{AllocError, Global};
-
-// The hulls that a cursor gave of a whole run.
-fn hulls_of(run: &shapes::Hulls) -> Hulls
-    ensures { Walk.four result ≡ Walk.of_run (Whole.four run.now) }
-{
-    Hulls {
-        x: run.x,
-        y: run.y,
-        z: run.z,
-        m: run.m,
-    }
-}
 
 // A new bounder: no shape was added yet, and its hint can be set.
 #[derive(Drop)]
@@ -135,8 +122,7 @@ impl CountingBounder {
         let middle = divide(&self.hint);
         let mut page = self.kept;
         while let Some(run) = cursor.next_run() {
-            let run_hulls = hulls_of(&run);
-            page = page.settled(middle, &run_hulls);
+            page = page.settled(middle, &run);
         }
         let counted = PageRecord {
             codes: page.codes.with(code),

@@ -9,4 +9,4 @@ mod records;
 
 pub use bounder::{CountingBounder, GeometryBounder};
 pub use laws::laws_hold;
-pub use records::{Answer, CodeSet, Hulls, PageRecord};
+pub use records::{Answer, CodeSet, PageRecord};

@@ -24,38 +24,12 @@ ghost use Rattle.bounding.specs.Laws.{Tells, Together};
 ghost use Rattle.bounding.specs.Record as Record;
 ghost use Rattle.bounding.specs.Told as Told;
 ghost use Rattle.bounding.specs.Walk as Walk;
-ghost use Rattle.bounding.specs.Walk.{four, kept};
+ghost use Rattle.bounding.specs.Walk.{kept};
+ghost use Rattle.shapes.specs.Hulls.{four};
 
-use crate::records::{Answer, CodeSet, Hulls, PageRecord};
+use crate::records::{Answer, CodeSet, PageRecord};
 use interval::{Interval, IntervalTrait, WraparoundInterval};
-use shapes::Coord;
-
-impl Hulls {
-    // The hulls of a run that has no coordinate yet.
-    pub(crate) fn empty() -> Hulls
-        ensures { four result ≡ Walk.none }
-    {
-        let none = <Interval as IntervalTrait>::empty();
-        Hulls {
-            x: none,
-            y: none,
-            z: none,
-            m: none,
-        }
-    }
-
-    // The hulls of the run with one coordinate more.
-    pub(crate) fn with(&self, c: &Coord) -> Hulls
-        ensures { four result ≡ Walk.with (four self.now) c.now }
-    {
-        Hulls {
-            x: self.x.merge_value(c.x),
-            y: self.y.merge_value(c.y),
-            z: self.z.merge_value(c.z),
-            m: self.m.merge_value(c.m),
-        }
-    }
-}
+use shapes::Hulls;
 
 fn merge_if(test: bool, bounds: &Interval, hull: &Interval) -> Interval
     ensures { ends result ≡ (if test then merged (ends bounds.now) (ends hull.now) else ends bounds.now) }
@@ -71,7 +45,7 @@ fn merge_if(test: bool, bounds: &Interval, hull: &Interval) -> Interval
 fn shown<T: Copy>(bounds: &Interval, told: T) -> Option<T>
     ensures { result ≡ (if empty (ends bounds.now) then None else Some told) }
 {
-    if bounds.is_empty() { None } else { Some(told) }
+    (!bounds.is_empty()).then_some(told)
 }
 
 impl PageRecord {

@@ -21,7 +21,7 @@
 use interval::{Interval, WraparoundInterval};
 
 // A set of type codes, a bit for each of the 28.
-#[derive(Clone, Copy)]
+#[derive(Clone, Copy, PartialEq, Eq, Debug)]
 pub struct CodeSet {
     pub bits: u32,
 }
@@ -36,15 +36,6 @@ pub struct PageRecord {
     pub z: Interval,
     pub m: Interval,
     pub codes: CodeSet,
-}
-
-// The hulls of one run on the four axes.
-#[derive(Clone, Copy)]
-pub struct Hulls {
-    pub x: Interval,
-    pub y: Interval,
-    pub z: Interval,
-    pub m: Interval,
 }
 
 // What is told of a record. An axis without values is left out. x may wrap.

@@ -6,8 +6,9 @@ use Rattle.shapes.specs.declared.coord.Coord.{Coord}
 use Rattle.shapes.specs.Source.{InBinary64}
 use Rattle.bounding.specs.Laws.{HeldCoords}
 use Rattle.bounding.specs.Record.{place}
-use Rattle.bounding.specs.Walk.{walk, kept, four, none, with, mark, Four}
-use Rattle.bounding.specs.declared.records.Hulls.{Hulls}
+use Rattle.bounding.specs.Walk.{walk, kept, mark}
+use Rattle.shapes.specs.Hulls.{Four, four, none, with}
+use Rattle.shapes.specs.declared.hulls.Hulls.{Hulls}
 use Rattle.bounding.proofs.Walks.{walk-join, walk-next, walk_end, walk-adds}
 use Rattle.bounding.proofs.bounder.CountingBounder.update_source.Goals as goal
 

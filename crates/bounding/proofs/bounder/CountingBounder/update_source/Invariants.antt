@@ -1,6 +1,7 @@
 use Rattle.std.proofs.Common.{◌≡◌, length}
 use Rattle.bounding.specs.Laws.{HeldCoords}
-use Rattle.bounding.specs.Walk.{walk, kept, four, none}
+use Rattle.bounding.specs.Walk.{walk, kept}
+use Rattle.shapes.specs.Hulls.{four, none}
 use Rattle.bounding.proofs.bounder.CountingBounder.update_source.Given as goal
 
 abbrev pub invariant-loop-c : goal.invariant-loop-c

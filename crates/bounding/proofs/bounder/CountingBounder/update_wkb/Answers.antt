@@ -1,4 +1,4 @@
-use Rattle.std.proofs.Common.{◌≡◌, ◌^◌, List, [], ◌∷◌, length, sym, ap, ◌∙◌, subst, arith, length-append, rules}
+use Rattle.std.proofs.Common.{◌≡◌, ◌^◌, List, [], ◌∷◌, sym, ap, ◌∙◌, subst}
 use mathlib.Core.List.{Memᴰ}
 use lib.Bits.{bit_or}
 use Rattle.std.specs.List.{AllByRecursion}
@@ -10,9 +10,9 @@ use Rattle.shapes.specs.Source.{Shape, InBinary64}
 use Rattle.shapes.specs.Wkb.{code_at, coords_in, decode}
 use Rattle.bounding.specs.Laws.{HeldCoords}
 use Rattle.bounding.specs.Record.{Kept, place}
-use Rattle.shapes.specs.Hulls as Whole
-use Rattle.bounding.specs.Walk.{four, of_run, none, walk, kept}
-use Rattle.bounding.proofs.Walks.{PlainKept, walk-run, runs-add, of_run-with_all}
+use Rattle.shapes.specs.Hulls.{four, none}
+use Rattle.bounding.specs.Walk.{walk, kept}
+use Rattle.bounding.proofs.Walks.{PlainKept, walk-run, runs-add}
 use Rattle.bounding.proofs.bounder.CountingBounder.update_wkb.Goals as goal
 
 held : (cs : List Coord) → AllByRecursion InBinary64 cs → HeldCoords cs
@@ -24,24 +24,19 @@ pub loop-run-preserved : goal.loop-run-preserved
 loop-run-preserved c =
     let t = c.divide-middle.result in
     let k = kept c.loop-run.page in
-    let h = four c.hulls_of-run_hulls.result in
+    let h = four c.in-Some.run' in
     let taken = c.in-Some.ensures in
     let rest = still c.next_run.new.self in
     let e = c.settled-page.ensures in (
       λ p.
           let q = c.loop-run.invariant.0 p in
-          let w = walk-run t k h taken.first taken.others rest (still c.loop-run.cursor) q.0 taken.run taken.joined taken.ended (c.hulls_of-run_hulls.ensures ∙ ap of_run taken.hulls ∙ of_run-with_all Whole.none (taken.first ∷ taken.others)) in
+          let w = walk-run t k h taken.first taken.others rest (still c.loop-run.cursor) q.0 taken.run taken.joined taken.ended taken.hulls in
           (subst PlainKept (sym e) w.0, ap (λ (z : Kept). walk t z none rest) e ∙ w.1 ∙ q.1),
       λ _. c.loop-run.invariant.1 taken.held,
     )
 
-pub loop-run-smaller : goal.loop-run-smaller
-loop-run-smaller c =
-    let taken = c.in-Some.ensures in
-    omega (arith, ap length taken.run, length-append taken.others (still c.next_run.new.self))
-
-pub returns : goal.returns
-returns c =
+pub returns-clause-adds : goal.returns-clause-adds
+returns-clause-adds c =
     let b = c.args.bytes.now in
     let t = c.divide-middle.result in
     let h = ends c.args.self.now.hint in
@@ -52,13 +47,9 @@ returns c =
     let read = c.in_ok-checked.ensures.decoded in
     let opened : shape_of c.new-cursor.result ≡ s = c.new-cursor.ensures (code_at b) (coords_in b) (ap decode read.0 ∙ read.1) in
     let came = ap (λ (z : Shape). z.coords) opened in
-    let coded = c.with.ensures ∙ ap (λ (z : Code). bit_or c.loop-run.page.codes.bits (2 ^ place z)) (c.code-code.ensures ∙ ap (λ (z : Shape). z.code) opened) in
-    record {
-      adds = (
-        read.1,
-        λ ss e. (λ i. record { left = p.left; mid = p.mid; right = p.right; y = p.y; z = p.z; m = p.m; codes = coded i })
-            ∙ runs-add h k p s t (still c.loop-run.cursor) (λ q. let r = c.loop-run.invariant.0 q in (r.0, r.1 ∙ ap (walk t k none) came)) over c.divide-middle.ensures ss e,
-        subst HeldCoords came (held _ (c.loop-run.invariant.1 (subst (AllByRecursion InBinary64) (sym over) tt))),
-      );
-      hint = search rules;
-    }
+    let coded = c.with.ensures ∙ ap (λ (z : Code). bit_or c.loop-run.page.codes.bits (2 ^ place z)) (c.code-code.ensures ∙ ap (λ (z : Shape). z.code) opened) in (
+      read.1,
+      λ ss e. (λ i. record { left = p.left; mid = p.mid; right = p.right; y = p.y; z = p.z; m = p.m; codes = coded i })
+          ∙ runs-add h k p s t (still c.loop-run.cursor) (λ q. let r = c.loop-run.invariant.0 q in (r.0, r.1 ∙ ap (walk t k none) came)) over c.divide-middle.ensures ss e,
+      subst HeldCoords came (held _ (c.loop-run.invariant.1 (subst (AllByRecursion InBinary64) (sym over) tt))),
+    )

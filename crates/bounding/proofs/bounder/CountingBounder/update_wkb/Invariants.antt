@@ -2,7 +2,8 @@ use Rattle.std.proofs.Common.{◌≡◌, length}
 use Rattle.std.specs.List.{AllByRecursion}
 use Rattle.shapes.specs.Pending.{still}
 use Rattle.shapes.specs.Source.{InBinary64}
-use Rattle.bounding.specs.Walk.{none, walk, kept}
+use Rattle.bounding.specs.Walk.{walk, kept}
+use Rattle.shapes.specs.Hulls.{none}
 use Rattle.bounding.proofs.Walks.{PlainKept}
 use Rattle.bounding.proofs.bounder.CountingBounder.update_wkb.Given as goal
 

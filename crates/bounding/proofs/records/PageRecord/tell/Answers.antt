@@ -1,6 +1,5 @@
-use Rattle.std.proofs.Common.{◌≡◌, Bool, true, false, cond, Some, None, sym, refl, ap, ◌∙◌, subst, ap₂}
+use Rattle.std.proofs.Common.{◌≡◌, Bool, true, false, cond, Some, None, Option, sym, refl, ap, ◌∙◌, subst, ap₂}
 use Rattle.interval.specs.declared.kinds.Interval.{Interval}
-use Rattle.interval.specs.declared.kinds.WraparoundInterval.{WraparoundInterval}
 use Rattle.interval.specs.Pairs.{Pair, ends, inner_ends, empty}
 use Rattle.bounding.specs.declared.records.Answer.{Answer}
 use Rattle.bounding.specs.declared.records.PageRecord.{PageRecord}
@@ -29,20 +28,13 @@ tells h r t e ss is =
       members = λ others O s. subst (λ (u : Told). AlikeTold u (told (ends h) (record_of (ends h) others))) (sym p) (told-alike (ends h) (record_of (ends h) ss) (record_of (ends h) others) h.held k (keeps-held (ends h) others O) (record-plain (ends h) ss) (record-plain (ends h) others) (keeps-members (ends h) ss others s));
     }
 
--- an axis that is shown, as a pair
-shown-ends : (b : Pair) (i : Interval) → optional (cond (empty b) None (Some i)) ≡ shown b (ends i)
-shown-ends b i = go (empty b)
+-- an axis that is shown, as its pair
+shown-as : {A : Type 0} (pairs : Option A → Option Pair) (view : A → Pair) (b : Pair) (a : A) → pairs None ≡ None → pairs (Some a) ≡ Some (view a) → pairs (cond (empty b) None (Some a)) ≡ shown b (view a)
+shown-as pairs view b a none some = go (empty b)
   where
-    go : (e : Bool) → optional (cond e None (Some i)) ≡ cond e None (Some (ends i))
-    go true = refl
-    go false = refl
-
-shown-inner : (b : Pair) (w : WraparoundInterval) → optional_inner (cond (empty b) None (Some w)) ≡ shown b (inner_ends w)
-shown-inner b w = go (empty b)
-  where
-    go : (e : Bool) → optional_inner (cond e None (Some w)) ≡ cond e None (Some (inner_ends w))
-    go true = refl
-    go false = refl
+    go : (e : Bool) → pairs (cond e None (Some a)) ≡ cond e None (Some (view a))
+    go true = none
+    go false = some
 
 pub returns : goal.returns
 returns c =
@@ -50,10 +42,10 @@ returns c =
     let a : Answer = record { x = c.shown.result; y = c.shown-2.result; z = c.shown-3.result; m = c.shown-4.result; codes = r.codes } in
     let e : answer a ≡ told (ends c.args.hint.now) (kept r) =
     λ i. record {
-      x = (ap optional_inner c.shown.ensures ∙ shown-inner (ends c.all-all.result) c.x-x.result ∙ ap₂ shown c.all-all.ensures c.x-x.ensures) i;
-      y = (ap optional c.shown-2.ensures ∙ shown-ends (ends r.y) r.y) i;
-      z = (ap optional c.shown-3.ensures ∙ shown-ends (ends r.z) r.z) i;
-      m = (ap optional c.shown-4.ensures ∙ shown-ends (ends r.m) r.m) i;
+      x = (ap optional_inner c.shown.ensures ∙ shown-as optional_inner inner_ends (ends c.all-all.result) c.x-x.result refl refl ∙ ap₂ shown c.all-all.ensures c.x-x.ensures) i;
+      y = (ap optional c.shown-2.ensures ∙ shown-as optional ends (ends r.y) r.y refl refl) i;
+      z = (ap optional c.shown-3.ensures ∙ shown-as optional ends (ends r.z) r.z refl refl) i;
+      m = (ap optional c.shown-4.ensures ∙ shown-as optional ends (ends r.m) r.m refl refl) i;
       codes = r.codes.bits;
     } in
     record { exact = e; law = tells c.args.hint.now r (answer a) e }

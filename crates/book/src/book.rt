@@ -128,8 +128,8 @@ impl<'a> Book<'a> {
 
     // Adds the shape of a source, which is read to its end. Where the slip is refused, the source is not read.
     pub fn add<S: ShapeSource>(&mut self, slip: &Slip, source: &mut S) -> Result<(), Fault>
-        ensures step { Step self.old self.new (moves (Asked.Add slip.now.page) (Ok (S.ShapeSource.means source.old ∷ []))) (λ s. result ≡ added (verdict (size self.old) s (Asked.Add slip.now.page) (Ok (S.ShapeSource.means source.old ∷ [])))) }
-        ensures source { MatchResult result (λ _. (S.ShapeSource.means source.new).coords ≡ []) (λ _. source.new ≡ source.old) }
+        ensures step { Step self.old self.new (moves (Asked.Add slip.now.page) (Ok (S.means source.old ∷ []))) (λ s. result ≡ added (verdict (size self.old) s (Asked.Add slip.now.page) (Ok (S.means source.old ∷ [])))) }
+        ensures source { MatchResult result (λ _. (S.means source.new).coords ≡ []) (λ _. source.new ≡ source.old) }
     {
         rule(self.state, self.closed, self.room(), Asked::Add(slip.page))?;
         self.pending.update_source(source);
@@ -171,8 +171,8 @@ impl<'a> Book<'a> {
         target: Target,
         window: &Window<K>,
     ) -> Result<Verdict, Fault>
-        ensures step { Step self.now self.now asks (λ s. Sifted K.IntervalTrait.wrapping (frame_of K.IntervalTrait.covers window.now) target (tells (hint_of self.now) s target) result) }
-        ensures skipped { SkippedSoundly self.now (frame_of K.IntervalTrait.covers window.now) target result }
+        ensures step { Step self.now self.now asks (λ s. Sifted K.WRAPS (frame_of K.covers window.now) target (tells (hint_of self.now) s target) result) }
+        ensures skipped { SkippedSoundly self.now (frame_of K.covers window.now) target result }
     {
         let told = self.tell(target)?;
         match judge(&told, window) {

@@ -44,7 +44,7 @@ impl Refusal {
         ensures { result ≡ Statuses.status_of self }
     {
         match self {
-            Refusal::Refused(f) => f.cause.number() as i32,
+            Refusal::Refused(f) => i32::from(u8::from(f.cause)),
             Refusal::Misused(m) => m.status(),
         }
     }
@@ -55,8 +55,8 @@ fn raw_fault(fault: Fault) -> RawFault
     ensures { result ≡ Statuses.fault_of fault }
 {
     RawFault {
-        number: fault.cause.number() as u32,
-        layer: fault.cause.layer() as u32,
+        number: u32::from(u8::from(fault.cause)),
+        layer: u32::from(u8::from(fault.cause.layer())),
         place: fault.place,
     }
 }

@@ -36,7 +36,7 @@ fn asked(asks: bool, pair: &RawPair) -> Option<Ends>
 
 // The window of these pairs, with bounds of one kind for x.
 fn opened<K: IntervalTrait + Drop>(raw: &RawWindow) -> Result<Window<K>, Refusal>
-    ensures { Opens K.IntervalTrait.wrapping K.IntervalTrait.covers raw.now result }
+    ensures { Opens K.WRAPS K.covers raw.now result }
 {
     let z = asked(raw.asked % 2 == 1, &raw.z);
     let m = asked(raw.asked >= 2, &raw.m);
@@ -61,7 +61,7 @@ fn ruled<K: IntervalTrait + Drop>(
     hint: &Interval,
     window: &Window<K>,
 ) -> Result<u8, Refusal>
-    ensures { Firm (frame_of K.IntervalTrait.covers window.now) → MatchResult result (λ b. (page_refusal K.IntervalTrait.wrapping (ends hint.now) page.now ≡ None) × Rules (frame_of K.IntervalTrait.covers window.now) (Told.told (ends hint.now) (kept_in page.now)) b) (λ e. page_refusal K.IntervalTrait.wrapping (ends hint.now) page.now ≡ Some e) }
+    ensures { Firm (frame_of K.covers window.now) → MatchResult result (λ b. (page_refusal K.WRAPS (ends hint.now) page.now ≡ None) × Rules (frame_of K.covers window.now) (Told.told (ends hint.now) (kept_in page.now)) b) (λ e. page_refusal K.WRAPS (ends hint.now) page.now ≡ Some e) }
 {
     let kept = taken(page)?;
     match book::judge(&kept.tell(hint), window) {
@@ -76,7 +76,7 @@ fn rule_one<K: IntervalTrait + Drop>(
     raw: &RawWindow,
     verdict: &mut u8,
 ) -> Result<(), Refusal>
-    ensures { MatchResult result (λ _. (before (pairs_refusal K.IntervalTrait.wrapping raw.now) (page_refusal K.IntervalTrait.wrapping (ends hint.now) page.now) ≡ None) × Rules (Values.frame raw.now) (Told.told (ends hint.now) (kept_in page.now)) verdict.new) (λ e. (before (pairs_refusal K.IntervalTrait.wrapping raw.now) (page_refusal K.IntervalTrait.wrapping (ends hint.now) page.now) ≡ Some e) × (verdict.new ≡ verdict.old)) }
+    ensures { MatchResult result (λ _. (before (pairs_refusal K.WRAPS raw.now) (page_refusal K.WRAPS (ends hint.now) page.now) ≡ None) × Rules (Values.frame raw.now) (Told.told (ends hint.now) (kept_in page.now)) verdict.new) (λ e. (before (pairs_refusal K.WRAPS raw.now) (page_refusal K.WRAPS (ends hint.now) page.now) ≡ Some e) × (verdict.new ≡ verdict.old)) }
 {
     let window = opened::<K>(raw)?;
     *verdict = ruled(page, hint, &window)?;
@@ -118,7 +118,7 @@ pub extern "C" fn pagebounds_verdict(
 
 // The byte of a page in the list of verdicts.
 fn page_byte<K: IntervalTrait + Drop>(page: &RawRecord, hint: &Interval, window: &Window<K>) -> u8
-    ensures { Firm (frame_of K.IntervalTrait.covers window.now) → PageByte K.IntervalTrait.wrapping (frame_of K.IntervalTrait.covers window.now) (ends hint.now) page.now result }
+    ensures { Firm (frame_of K.covers window.now) → PageByte K.WRAPS (frame_of K.covers window.now) (ends hint.now) page.now result }
 {
     match ruled(page, hint, window) {
         Ok(verdict) => verdict,
@@ -134,7 +134,7 @@ fn write_bytes<K: IntervalTrait + Drop>(
     verdicts: &mut [u8],
 )
     requires { length pages.now ≡ length verdicts.old }
-    ensures { Firm (frame_of K.IntervalTrait.covers window.now) → PageBytes K.IntervalTrait.wrapping (frame_of K.IntervalTrait.covers window.now) (ends hint.now) pages.now verdicts.new }
+    ensures { Firm (frame_of K.covers window.now) → PageBytes K.WRAPS (frame_of K.covers window.now) (ends hint.now) pages.now verdicts.new }
 {
     for i in 0..pages.len() {
         verdicts[i] = page_byte(&pages[i], hint, window);
@@ -148,7 +148,7 @@ fn rule_all<K: IntervalTrait + Drop>(
     verdicts: &mut [u8],
 ) -> Result<(), Refusal>
     requires { length pages.now ≡ length verdicts.old }
-    ensures { MatchResult result (λ _. (pairs_refusal K.IntervalTrait.wrapping raw.now ≡ None) × PageBytes K.IntervalTrait.wrapping (Values.frame raw.now) (ends hint.now) pages.now verdicts.new) (λ e. (pairs_refusal K.IntervalTrait.wrapping raw.now ≡ Some e) × (verdicts.new ≡ verdicts.old)) }
+    ensures { MatchResult result (λ _. (pairs_refusal K.WRAPS raw.now ≡ None) × PageBytes K.WRAPS (Values.frame raw.now) (ends hint.now) pages.now verdicts.new) (λ e. (pairs_refusal K.WRAPS raw.now ≡ Some e) × (verdicts.new ≡ verdicts.old)) }
 {
     let window = opened::<K>(raw)?;
     write_bytes(pages, hint, &window, verdicts);

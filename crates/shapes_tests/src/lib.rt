@@ -22,7 +22,7 @@ mod tests {
         match check(bytes) {
             Ok(_) => Err(Fail::new("read")),
             Err(fault) => {
-                assert_eq!(rt; fault.cause.number(), number);
+                assert_eq!(rt; u8::from(fault.cause), number);
                 assert_eq!(rt; fault.place, place);
                 Ok(())
             }
@@ -72,7 +72,7 @@ mod tests {
         match Table::new(8, &coords) {
             Ok(_) => return Err(Fail::new("8 is no code")),
             Err(fault) => {
-                assert_eq!(rt; fault.cause.number(), 13);
+                assert_eq!(rt; u8::from(fault.cause), 13);
                 assert_eq!(rt; fault.place, 0);
             }
         }

@@ -43,7 +43,7 @@ loop-i-init g c =
 
 pub loop-i-preserved : goal.loop-i-preserved
 loop-i-preserved g c =
-    let wrapping = g.K.IntervalTrait.wrapping in
+    let wrapping = g.K.IntervalTrait.WRAPS in
     let covers = g.K.IntervalTrait.covers in
     let means = g.S.ShapeSource.means in
     let i = c.loop-i.i in
@@ -77,7 +77,7 @@ ended hint len h t u v e r = subst (Runs hint len start h t) (sym e) r
 
 pub returns : goal.returns
 returns g c =
-    let wrapping = g.K.IntervalTrait.wrapping in
+    let wrapping = g.K.IntervalTrait.WRAPS in
     let covers = g.K.IntervalTrait.covers in
     let means = g.S.ShapeSource.means in
     let asked = c.args.requests.now in

@@ -20,7 +20,7 @@ invariant-loop-i g l =
     × (hint_of l.book ≡ hint)
     × KeptBy (after_first means len asked l.i) l.book
     × (drop l.i l.requests ≡ drop l.i asked)
-    × ((k : ℕ) → k < l.i → Replies g.K.IntervalTrait.wrapping covers means hint len (after_first means len asked k) (get_or asked k Opening) (get_or l.replies k Added))
+    × ((k : ℕ) → k < l.i → Replies g.K.IntervalTrait.WRAPS covers means hint len (after_first means len asked k) (get_or asked k Opening) (get_or l.replies k Added))
     × (l.book.table.ghost_name ≡ l.initial.book.table.ghost_name)
     × (l.book.pending.ghost_name ≡ l.initial.book.pending.ghost_name)
     × Runs hint len start (map (called means) (take l.i asked)) l.initial.book.table.now l.book.table.now

@@ -10,7 +10,7 @@ use Rattle.foreign.proofs.verdicts.opened.Goals as goal
 pub returns-in-Ok : goal.returns-in-Ok
 returns-in-Ok g c =
     let raw = c.args.raw.now in
-    let wrapping = g.K.IntervalTrait.wrapping in
+    let wrapping = g.K.IntervalTrait.WRAPS in
     let x : Float × Float = (raw.x.lo, raw.x.hi) in
     let y : Float × Float = (raw.y.lo, raw.y.hi) in
     let (granted, framed) = c.in-Ok.ensures in

@@ -16,5 +16,5 @@ returns g c =
       pairs,
       λ k d lt.
           let r = get_or rs k d in
-          byte_alike (told h (kept_in r)) (frame_of g.K.IntervalTrait.covers c.in_ok-window.window) (frame c.args.raw.now) (page_refusal g.K.IntervalTrait.wrapping h r) (get_or bs k 0) alike (c.write_bytes.ensures firm k d lt),
+          byte_alike (told h (kept_in r)) (frame_of g.K.IntervalTrait.covers c.in_ok-window.window) (frame c.args.raw.now) (page_refusal g.K.IntervalTrait.WRAPS h r) (get_or bs k 0) alike (c.write_bytes.ensures firm k d lt),
     )

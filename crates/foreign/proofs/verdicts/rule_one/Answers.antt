@@ -15,6 +15,6 @@ returns g c =
     let raw = c.args.raw.now in
     let (pairs, firm, alike) = c.in_ok-window.ensures in
     let (e, rules) = c.in_ok-verdict.ensures firm in (
-      ap (λ (o : Option Refusal). before o (page_refusal g.K.IntervalTrait.wrapping h page)) pairs ∙ e,
+      ap (λ (o : Option Refusal). before o (page_refusal g.K.IntervalTrait.WRAPS h page)) pairs ∙ e,
       rules-alike (told h (kept_in page)) (frame_of g.K.IntervalTrait.covers c.in_ok-window.window) (frame raw) c.in_ok-verdict.field-0 alike rules,
     )

@@ -15,11 +15,11 @@ returns-in-Ok g c firm =
     let page = c.args.page.now in
     let held = c.in_ok-kept.ensures in
     let (e, rules) =
-    ruled g.K.IntervalTrait.wrapping w h page (kept c.in_ok-kept.kept) (answer c.tell.result) held.0 held.1 c.tell.ensures.exact c.in-Ok.verdict firm c.in-Ok.ensures in
+    ruled g.K.IntervalTrait.WRAPS w h page (kept c.in_ok-kept.kept) (answer c.tell.result) held.0 held.1 c.tell.ensures.exact c.in-Ok.verdict firm c.in-Ok.ensures in
     (e, subst (λ (b : ℕ). Rules w (told h (kept_in page)) b) (sym c.byte_of.ensures) rules)
 
 pub returns-in-Err : goal.returns-in-Err
 returns-in-Err g c firm =
     let w = frame_of g.K.IntervalTrait.covers c.args.window.now in
     let held = c.in_ok-kept.ensures in
-    unruled g.K.IntervalTrait.wrapping w (ends c.args.hint.now) c.args.page.now (kept c.in_ok-kept.kept) (answer c.tell.result) held.0 held.1 c.tell.ensures.exact c.in-Err.f c.in-Err.ensures
+    unruled g.K.IntervalTrait.WRAPS w (ends c.args.hint.now) c.args.page.now (kept c.in_ok-kept.kept) (answer c.tell.result) held.0 held.1 c.tell.ensures.exact c.in-Err.f c.in-Err.ensures

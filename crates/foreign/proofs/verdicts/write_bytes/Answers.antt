@@ -16,7 +16,7 @@ loop-i-preserved g c firm k d =
     let new = set c.loop-i.verdicts i b in
     let lt : i < length rs = omega arith in
     let long : i < length c.loop-i.verdicts = omega arith in
-    below_more (λ (j : ℕ). PageByte g.K.IntervalTrait.wrapping w h (get_or rs j d) (get_or new j 0)) i
+    below_more (λ (j : ℕ). PageByte g.K.IntervalTrait.WRAPS w h (get_or rs j d) (get_or new j 0)) i
     (λ j less. let ne : j ≢ i = omega arith in rw get_or-set_other (c.loop-i.invariant firm j d less))
-    (rw get_or-set_same (subst (λ (r : RawRecord). PageByte g.K.IntervalTrait.wrapping w h r b) (get_or_default rs i _ d lt) (c.page_byte.ensures firm)))
+    (rw get_or-set_same (subst (λ (r : RawRecord). PageByte g.K.IntervalTrait.WRAPS w h r b) (get_or_default rs i _ d lt) (c.page_byte.ensures firm)))
     k

@@ -9,4 +9,4 @@ use Rattle.foreign.proofs.verdicts.write_bytes.Given as goal
 abbrev pub invariant-loop-i : goal.invariant-loop-i
 invariant-loop-i g l =
     Firm (frame_of g.K.IntervalTrait.covers l.window) → (k : ℕ) (d : RawRecord) → k < l.i
-    → PageByte g.K.IntervalTrait.wrapping (frame_of g.K.IntervalTrait.covers l.window) (ends l.hint) (get_or l.pages k d) (get_or l.verdicts k 0)
+    → PageByte g.K.IntervalTrait.WRAPS (frame_of g.K.IntervalTrait.covers l.window) (ends l.hint) (get_or l.pages k d) (get_or l.verdicts k 0)

@@ -24,7 +24,7 @@ returns-in_err-told q c =
     let b = c.args.self.now in
     let g = c.args.target in
     let w = frame_of q.K.IntervalTrait.covers c.args.window.now in
-    let wrapping = q.K.IntervalTrait.wrapping in
+    let wrapping = q.K.IntervalTrait.WRAPS in
     let f = c.in_err-told.field-0.0 in
     let p = err_from_is_err_and c.from_residual.result c.from_residual.ensures.1 in
     let step = reworded c.in_err-told.ensures.step (λ s k e. subst (λ (r : Result Told Fault). Sifted wrapping w g r (Err f)) e refl) in
@@ -36,7 +36,7 @@ returns-in-Ok q c =
     let g = c.args.target in
     let t = answer c.in_ok-told.told in
     let w = frame_of q.K.IntervalTrait.covers c.args.window.now in
-    let wrapping = q.K.IntervalTrait.wrapping in
+    let wrapping = q.K.IntervalTrait.WRAPS in
     let v = c.in-Ok.verdict in
     let step =
     reworded c.in_ok-told.ensures.step
@@ -49,7 +49,7 @@ returns-in-Err q c =
     let g = c.args.target in
     let t = answer c.in_ok-told.told in
     let w = frame_of q.K.IntervalTrait.covers c.args.window.now in
-    let wrapping = q.K.IntervalTrait.wrapping in
+    let wrapping = q.K.IntervalTrait.WRAPS in
     let f = c.in-Err.f in
     let step =
     reworded c.in_ok-told.ensures.step

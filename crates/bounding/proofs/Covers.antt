@@ -7,7 +7,7 @@ use lib.Ieee.{Float, sub, eq, le, lt, is_nan, fits}
 use lib.Ieee.Fits.{and_i, and_l, and_r}
 use lib.Ieee.Bits.{is_false}
 use Rattle.number.specs.Values.{Held}
-use Rattle.number.proofs.Plain.{le_trans, le_of_lt, lt_irrefl, lt_of_lt_of_le}
+use Rattle.std.proofs.lemmas.Float.{le_trans, le_of_lt, lt_irrefl, lt_of_lt_of_le}
 use Rattle.interval.specs.Pairs.{Pair, pair, between, sides, stored, empty, width, nothing}
 use Rattle.interval.specs.Ordinary.{merged, contains}
 use Rattle.interval.proofs.Wraps.{empty-is_down}

@@ -1,7 +1,8 @@
 -- Pairs merged: exact laws, for pairs of any floats.
 use Rattle.std.proofs.Common.{◌≡◌, Bool, true, false, cond, not, ◌||◌, T, ap₂, arith}
 use lib.Ieee.{Float, le, is_nan}
-use Rattle.number.proofs.Plain.{le_trans, le_refl, le_left, le_right, le_total, least_assoc, most_assoc, least_nan_left, most_nan_left, lowest-le, le-highest, least_highest, most_lowest, highest-least, lowest-most}
+use Rattle.std.proofs.lemmas.Float.{le_trans, le_refl, le_left, le_right}
+use Rattle.number.proofs.Plain.{le_total, least_assoc, most_assoc, least_nan_left, most_nan_left, lowest-le, le-highest, least_highest, most_lowest, highest-least, lowest-most}
 use Rattle.interval.specs.Pairs.{Pair, pair, nothing}
 use Rattle.interval.specs.Ordinary.{merged}
 
@@ -80,4 +81,4 @@ pub into_trans : (a b c : Pair) → Into a b → Into b c → Into a c
 into_trans a b c p q = record { low = le_trans c.lo b.lo a.lo q.low p.low; high = le_trans a.hi b.hi c.hi p.high q.high }
 
 pub nothing-into : (e : Pair) → Plain e → Into nothing e
-nothing-into e p = record { low = le-highest e.lo p.low; high = lowest-le e.hi p.high }
+nothing-into e p = record { low = rw (le-highest e.lo) p.low; high = rw (lowest-le e.hi) p.high }

@@ -5,7 +5,7 @@ use lib.Ieee.Fits.{and_l, and_r}
 use Rattle.std.specs.Float.{float_is_finite}
 use Rattle.number.specs.Values.{Held}
 use Rattle.number.proofs.Arith.{sub-lowest, sub-highest}
-use Rattle.number.proofs.Plain.{le_trans, le_of_lt, lt_of_lt_of_le, lt_of_le_of_lt}
+use Rattle.std.proofs.lemmas.Float.{le_trans, le_of_lt, lt_of_lt_of_le, lt_of_le_of_lt}
 use Rattle.interval.specs.Pairs.{Pair, pair, empty, width, wraps}
 use Rattle.interval.specs.Ordinary.{merged, middle, half, too_wide}
 use Rattle.interval.specs.Laws.{refusal}

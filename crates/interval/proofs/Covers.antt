@@ -4,7 +4,8 @@ use lib.Ieee.{Float, inf, binary64, sub, eq, lt, le, is_nan}
 use lib.Ieee.Fits.{inf-fits}
 use Rattle.std.specs.Float.{float_min, float_max}
 use Rattle.number.specs.Values.{Held, Value}
-use Rattle.number.proofs.Order.{order, lowest-le, le-highest, least_held, most_held, least_le, le-most}
+use Rattle.number.proofs.Plain.{lowest-le, le-highest}
+use Rattle.number.proofs.Order.{order, least_held, most_held, least_le, le-most}
 use Rattle.interval.specs.Pairs.{Pair, pair, between, sides, empty, wraps, covered}
 use Rattle.interval.specs.Laws.{Inside, Inhabited, Common, Contains, Merges, Adds, Expands}
 use Rattle.interval.specs.Ordinary as Ordinary

@@ -2,6 +2,7 @@
 use Rattle.std.proofs.Common.{◌≡◌, ℕ, ◌^◌, Bool, true, false, cond, List, [], ◌∷◌, ◌++◌, sym, refl, ap, ◌∙◌, subst, ap₂, append-nil}
 use lib.Bits.{bit_or, or_zero_r}
 use lib.Ieee.{Float}
+use Rattle.std.proofs.lemmas.Bool.{cond-true, cond-false}
 use Rattle.std.specs.List.{AllByRecursion}
 use Rattle.interval.specs.Pairs.{Pair, pair, nothing}
 use Rattle.interval.specs.Ordinary.{merged}
@@ -13,7 +14,7 @@ use Rattle.bounding.specs.Runs.{Run, Axis, joining, later, runs, runs_of, hull, 
 use Rattle.bounding.specs.Record.{Kept, kept_of, record_of, merge, divide, place, codes_of, below, above, across, every}
 use Rattle.bounding.specs.Walk.{settle, walk, mark, Adds, empty_record}
 use Rattle.bounding.proofs.Merging.{Plain, merged-assoc, nothing-plain, nothing-merged, merged-nothing, merged-plain_left, merged-plain_right}
-use Rattle.bounding.proofs.Gathers.{hull-plain, gather-plain, merges}
+use Rattle.bounding.proofs.Gathers.{PlainKept, record-plain, hull-plain, gather-plain, merges}
 
 -- ---- one bound
 -- what becomes of a bound g when a hull passes the test or not
@@ -38,27 +39,21 @@ one f c = pair (f c) (f c)
 abbrev coming : Axis → (Pair → Bool) → Pair → List Coord → Pair
 coming f p e cs = pick (p (merged e (hull f (joining cs)))) (merged e (hull f (joining cs))) (gather f p (later cs))
 
-chosen : {A : Type 0} (b : Bool) (x y : A) → b ≡ true → cond b x y ≡ x
-chosen b x y e = ap (λ (z : Bool). cond z x y) e
-
-other : {A : Type 0} (b : Bool) (x y : A) → b ≡ false → cond b x y ≡ y
-other b x y e = ap (λ (z : Bool). cond z x y) e
-
 joining-yes : (c : Coord) (cs : List Coord) → c.joins ≡ true → joining (c ∷ cs) ≡ c ∷ joining cs
 unfolding joining
-joining-yes c cs e = chosen c.joins (c ∷ joining cs) [] e
+joining-yes c cs e = cond-true c.joins (c ∷ joining cs) [] e
 
 joining-no : (c : Coord) (cs : List Coord) → c.joins ≡ false → joining (c ∷ cs) ≡ []
 unfolding joining
-joining-no c cs e = other c.joins (c ∷ joining cs) [] e
+joining-no c cs e = cond-false c.joins (c ∷ joining cs) [] e
 
 later-yes : (c : Coord) (cs : List Coord) → c.joins ≡ true → later (c ∷ cs) ≡ later cs
 unfolding later
-later-yes c cs e = chosen c.joins (later cs) ((c ∷ joining cs) ∷ later cs) e
+later-yes c cs e = cond-true c.joins (later cs) ((c ∷ joining cs) ∷ later cs) e
 
 later-no : (c : Coord) (cs : List Coord) → c.joins ≡ false → later (c ∷ cs) ≡ (c ∷ joining cs) ∷ later cs
 unfolding later
-later-no c cs e = other c.joins (later cs) ((c ∷ joining cs) ∷ later cs) e
+later-no c cs e = cond-false c.joins (later cs) ((c ∷ joining cs) ∷ later cs) e
 
 module _ (f : Axis) (p : Pair → Bool) where
   -- the parts that a bound is made of
@@ -105,14 +100,6 @@ pub record PlainFour (h : Four) : Type 0 where
   pub y : Plain h.y
   pub z : Plain h.z
   pub m : Plain h.m
-
-pub record PlainKept (k : Kept) : Type 0 where
-  pub left : Plain k.left
-  pub mid : Plain k.mid
-  pub right : Plain k.right
-  pub y : Plain k.y
-  pub z : Plain k.z
-  pub m : Plain k.m
 
 with-plain : (h : Four) (c : Coord) → PlainFour h → PlainFour (with h c)
 with-plain h c p = record { x = merged-plain_left h.x (one xs c) p.x; y = merged-plain_left h.y (one ys c) p.y; z = merged-plain_left h.z (one zs c) p.z; m = merged-plain_left h.m (one ms c) p.m }
@@ -198,16 +185,6 @@ module _ (t : Float) where
       go true j p q = p ∙ join_is k h c cs j
       go false j p q = q ∙ next-is k h c cs H j
 
-pub record-plain : (h : Pair) (ss : List Shape) → PlainKept (record_of h ss)
-record-plain h ss = record {
-  left = gather-plain xs (below (divide h)) (runs_of ss);
-  mid = gather-plain xs (across (divide h)) (runs_of ss);
-  right = gather-plain xs (above (divide h)) (runs_of ss);
-  y = gather-plain ys every (runs_of ss);
-  z = gather-plain zs every (runs_of ss);
-  m = gather-plain ms every (runs_of ss);
-}
-
 empty-run : (f : Axis) (p : Pair → Bool) → gather f p (runs []) ≡ nothing
 unfolding runs gather
 empty-run f p = refl
@@ -272,11 +249,11 @@ walk-adds h k s ss e =
 -- ---- the steps of the walk
 pub walk-join : (t : Float) (k : Kept) (h : Four) (c : Coord) (cs l : List Coord) → l ≡ c ∷ cs → c.joins ≡ true → walk t k (with h c) cs ≡ walk t k h l
 unfolding walk
-walk-join t k h c cs l e j = sym (ap (walk t k h) e ∙ chosen c.joins (walk t k (with h c) cs) (walk t (settle t k h) (with none c) cs) j)
+walk-join t k h c cs l e j = sym (ap (walk t k h) e ∙ cond-true c.joins (walk t k (with h c) cs) (walk t (settle t k h) (with none c) cs) j)
 
 pub walk-next : (t : Float) (k : Kept) (h : Four) (c : Coord) (cs l : List Coord) → l ≡ c ∷ cs → c.joins ≡ false → walk t (settle t k h) (with none c) cs ≡ walk t k h l
 unfolding walk
-walk-next t k h c cs l e j = sym (ap (walk t k h) e ∙ other c.joins (walk t k (with h c) cs) (walk t (settle t k h) (with none c) cs) j)
+walk-next t k h c cs l e j = sym (ap (walk t k h) e ∙ cond-false c.joins (walk t k (with h c) cs) (walk t (settle t k h) (with none c) cs) j)
 
 pub walk_end : (t : Float) (k : Kept) (h : Four) (l : List Coord) → l ≡ [] → settle t k h ≡ walk t k h l
 unfolding walk

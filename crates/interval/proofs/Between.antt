@@ -4,7 +4,7 @@ use lib.Ieee.{Float, nan, inf, fin, lt, le, is_nan}
 use Rattle.std.specs.Float.{float_zero, float_is_finite}
 use Rattle.number.specs.Values.{Held, Value}
 use Rattle.number.proofs.Plain.{lowest-le, le-highest}
-use Rattle.number.proofs.Order.{order, least_le, le-most}
+use Rattle.number.proofs.Order.{order, least_held, most_held, least_le, le-most}
 use Rattle.number.proofs.Arith.{zero_held, zero_number, sub-le, le-add, add-held, sub_held}
 use Rattle.interval.specs.Pairs.{Pair, pair, between, nothing, everything}
 use Rattle.interval.specs.Laws.{Inside, Common, Meets, Merges, Adds, Everything}
@@ -49,6 +49,9 @@ meets p q (A, B) (C, D) =
 
 pub contains : (p q : Pair) → Ends p → Ends q → T (Ordinary.contains p q) → Inside (between q) (between p)
 contains p q (A, B) (C, D) r v (V, n) h = grind order
+
+pub merged-ends : (p q : Pair) → Ends p → Ends q → Ends (Ordinary.merged p q)
+merged-ends p q (A, B) (C, D) = (least_held p.lo q.lo A C, most_held p.hi q.hi B D)
 
 pub merges : (p q : Pair) → Ends p → Ends q → Merges (between p) (between q) (between (Ordinary.merged p q))
 merges p q (A, B) (C, D) = record { mine = λ v (V, n) h. grind (arith, least_le, le-most); yours = λ v (V, n) h. grind (arith, least_le, le-most) }

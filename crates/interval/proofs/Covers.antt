@@ -12,7 +12,7 @@ use Rattle.interval.specs.Ordinary as Ordinary
 use Rattle.interval.specs.Wraparound as Wraparound
 use Rattle.interval.specs.Wraparound.{left, right, closed, widens_lower, widened, merged, with_value, expanded}
 use Rattle.interval.proofs.Between as Between
-use Rattle.interval.proofs.Between.{Ends, upward, common}
+use Rattle.interval.proofs.Between.{Ends, upward, common, merged-ends}
 use Rattle.interval.proofs.Wraps.{numbers, narrower, covered-sides, covered-between, between-covered, empty-covers, full_covers, gap_inner, closed-covers}
 
 -- ---- intersects_interval
@@ -129,9 +129,6 @@ contains p q (A, B) (C, D) r v (V, n) h = go (wraps p) (wraps q) refl refl
     go false false e f = rw (covered-between p v e) (Between.contains p q (A, B) (C, D) (rw (e, f) at r) v (V, n) (rw (covered-between q v f) at h))
 
 -- ---- merge_interval
-merged-ends : (p q : Pair) → Ends p → Ends q → Ends (Ordinary.merged p q)
-merged-ends p q (A, B) (C, D) = (least_held p.lo q.lo A C, most_held p.hi q.hi B D)
-
 -- what reaches outward of a pair that wraps covers its values, once closed
 closed-mine : (p q : Pair) → Ends p → Ends q → wraps p ≡ true → T (le q.lo p.lo) → T (le p.hi q.hi) → Inside (covered p) (covered (closed q))
 closed-mine p q (A, B) (C, D) e l h v (V, n) k =

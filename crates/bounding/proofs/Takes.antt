@@ -18,7 +18,7 @@ use Rattle.bounding.specs.Told.{ordinary, told_x, shown, told}
 use Rattle.bounding.specs.Laws.{HeldEnds, HeldKept, Takable}
 use Rattle.bounding.proofs.Merging.{Plain, merged-plain_right, into_left}
 use Rattle.bounding.proofs.Gathers.{gather-plain, hull-into}
-use Rattle.bounding.proofs.Covers.{HeldThree, upright, hull-upright, raised, hull-none, run-find, Has, find, gathered, on_left, on_right, amid, sided, lefts, mids, rights, whole, left-whole, right-whole, hull-whole, whole-none, Halved, halved, lefts-below, rights-above}
+use Rattle.bounding.proofs.Covers.{HeldThree, upright, hull-upright, raised, hull-none, run-find, Has, find, gathered, on_left, on_right, amid, sided, lefts, mids, rights, whole, left-whole, right-whole, whole-none, Halved, halved, lefts-below, rights-above}
 
 -- ---- the hint
 no_above : (b : Float) → T (lt (inf false) b) → ⊥
@@ -109,9 +109,6 @@ module _ (h : Pair) (rs : List Run) (n : ℕ) (H : HeldEnds h) (held : HeldThree
         | on_right z ↦ k.paired ∙ upright (rights t rs) held.right (raised xs r (rights t rs) (hull-into xs (above t) m z) v)
         | amid z ↦ absurd (true≢false (sym k.clear ∙ upright (mids t rs) held.mid (raised xs r (mids t rs) (hull-into xs (across t) m z) v)))
       ]
-
-  whole-upright : empty (whole t rs) ≡ false → T (le (whole t rs).lo (whole t rs).hi)
-  whole-upright w = let (r, m, v) = some-run w in raised xs r (whole t rs) (hull-whole t rs r m) v
 
   split_wraps : Halved h (kept_of t rs n) → empty (whole t rs) ≡ false → wraps (pair (rights t rs).lo (lefts t rs).hi) ≡ true
   split_wraps k w =

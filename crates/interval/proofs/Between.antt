@@ -1,5 +1,6 @@
 -- The laws of the values from lo to hi, for what `Interval` answers.
-use Rattle.std.proofs.Common.{◌≡◌, Bool, true, false, T, refl, arith}
+use Rattle.std.proofs.Common.{◌≡◌, true, false, T, refl, inl, inr, arith}
+use Rattle.std.proofs.lemmas.Bool.{cases_Bool}
 use lib.Ieee.{Float, nan, inf, fin, lt, le, is_nan}
 use Rattle.std.specs.Float.{float_zero, float_is_finite}
 use Rattle.number.specs.Values.{Held, Value}
@@ -34,11 +35,11 @@ outward p q v (A, B) (C, D) V l r h = grind order
 
 -- the higher of the two lower ends is common to pairs that meet
 pub common : (p q : Pair) → Ends p → Ends q → T (le p.lo p.hi) → T (le q.lo q.hi) → T (Ordinary.meets p q) → Common (between p) (between q)
-common p q (A, B) (C, D) h k m = pick (le p.lo q.lo) refl
-  where
-    pick : (t : Bool) → le p.lo q.lo ≡ t → Common (between p) (between q)
-    pick true e = (q.lo, (C, grind order), grind order, grind order)
-    pick false e = (p.lo, (A, grind order), grind order, grind order)
+common p q (A, B) (C, D) h k m =
+    elim (cases_Bool (le p.lo q.lo)) [
+      | inl e ↦ (q.lo, (C, grind order), grind order, grind order)
+      | inr e ↦ (p.lo, (A, grind order), grind order, grind order)
+    ]
 
 pub meets : (p q : Pair) → Ends p → Ends q → Meets (between p) (between q) (Ordinary.meets p q)
 meets p q (A, B) (C, D) =

@@ -2,6 +2,7 @@
 use Rattle.std.proofs.Common.{◌≡◌, Bool, true, false, cond, not, ◌&&◌, ◌||◌, T, refl, ◌∙◌, arith}
 use lib.Ieee.{Float, inf, binary64, sub, eq, lt, le, is_nan}
 use lib.Ieee.Fits.{inf-fits}
+use Rattle.std.proofs.lemmas.Bool.{cond_both}
 use Rattle.number.specs.Values.{Held, Value}
 use Rattle.number.proofs.Plain.{lowest-le, le-highest}
 use Rattle.number.proofs.Order.{order}
@@ -103,8 +104,6 @@ parts p v (A, B) V = go (wraps p)
 -- sides moved outward, and closed where they meet, cover the values of both
 pub closed-covers : (p q : Pair) (v : Float) → Ends p → Ends q → Value v → wraps p ≡ true → T (le q.lo p.lo) → T (le p.hi q.hi) → T (sides q v) → T (covered (closed q) v)
 unfolding closed
-closed-covers p q v (A, B) (C, D) (V, n) w l h s = go (le q.lo q.hi) refl
-  where
-    go : (t : Bool) → le q.lo q.hi ≡ t → T (covered (cond t everything q) v)
-    go true e = rw (covers-all v (V, n)) tt
-    go false e = rw (covered-sides q v (narrower p q (A, B) (C, D) w l h (grind order))) s
+closed-covers p q v (A, B) (C, D) (V, n) w l h s =
+    cond_both (le q.lo q.hi) everything q (λ z. T (covered z v)) (λ _. rw (covers-all v (V, n)) tt)
+    (λ e. rw (covered-sides q v (narrower p q (A, B) (C, D) w l h (grind order))) s)

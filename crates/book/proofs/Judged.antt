@@ -4,7 +4,8 @@ use lib.Ieee.{Float, le, lt, is_nan}
 use Rattle.number.specs.Values.{Held}
 use Rattle.interval.specs.declared.fault.Fault.{Fault}
 use Rattle.interval.specs.declared.kinds.Interval.{Interval}
-use Rattle.number.proofs.Plain.{le_refl, le_left, lt-is_not_le}
+use Rattle.std.proofs.lemmas.Float.{le_refl, le_left}
+use Rattle.number.proofs.Plain.{lt-is_not_le}
 use Rattle.interval.specs.Laws.{Set, Inhabited, Common, Equal, Meets, refusal}
 use Rattle.interval.specs.Pairs.{Pair, ends, between, stored, empty}
 use Rattle.shapes.specs.Source.{Shape}

@@ -4,40 +4,20 @@ use mathlib.Core.Bool.{beq}
 use lib.Ieee.{Float, inf, binary64, sub, eq}
 use lib.Ieee.Fits.{inf-fits}
 use Rattle.number.specs.Values.{Held, Same}
-use Rattle.number.proofs.Plain.{eq-is_les}
 use Rattle.number.proofs.Order.{order, same_refl, le_same, lt_same}
 use Rattle.number.proofs.Arith.{add-held, sub_held, add_same, sub_same}
 use Rattle.interval.specs.Pairs.{Pair, pair, empty, width}
 use Rattle.interval.specs.Ordinary.{merged}
 use Rattle.shapes.specs.Source.{Shape}
-use Rattle.bounding.specs.Runs.{runs_of, xs}
-use Rattle.bounding.specs.Record.{Kept, record_of, divide, below, above, across}
+use Rattle.bounding.specs.Record.{Kept, record_of}
 use Rattle.bounding.specs.Told.{all, outer, ordinary, told_x, shown, told}
 use Rattle.bounding.specs.Laws.{HeldEnds, HeldKept, HeldShapes, SameMembers, Alike, AlikeKept, AlikeShown, AlikeTold, TellsMembers}
-use Rattle.bounding.proofs.Merging.{Plain, Into, merged-plain_right, into_left, into_right, into_merged, into_trans}
-use Rattle.bounding.proofs.Gathers.{gather-plain, keeps-members}
-use Rattle.bounding.proofs.Covers.{merged-held}
+use Rattle.bounding.proofs.Merging.{Plain, Into, merged-plain_right, into_left, into_right, into_merged, into_trans, into_of, alike_of}
+use Rattle.bounding.proofs.Gathers.{PlainKept, record-plain, keeps-members}
+use Rattle.interval.proofs.Between.{merged-ends}
 use Rattle.bounding.proofs.Ordinates.{keeps-held}
 
 -- ---- pairs that are alike
-into_of : (a b : Pair) → Alike a b → Into a b × Into b a
-into_of a b h =
-    let l = h.low in
-    let u = h.high in
-    let x = eq-is_les a.lo b.lo in
-    let y = eq-is_les a.hi b.hi in
-    (record { low = grind arith; high = grind arith }, record { low = grind arith; high = grind arith })
-
-alike_of : (a b : Pair) → Into a b → Into b a → Alike a b
-alike_of a b p q =
-    let l = p.low in
-    let h = p.high in
-    let m = q.low in
-    let k = q.high in
-    let x = eq-is_les a.lo b.lo in
-    let y = eq-is_les a.hi b.hi in
-    record { low = grind arith; high = grind arith }
-
 merged-into : (a b c d : Pair) → Plain c → Plain d → Into a c → Into b d → Into (merged a b) (merged c d)
 merged-into a b c d p q h k = into_merged a b (merged c d) (into_trans a c (merged c d) h (into_left c d p)) (into_trans b d (merged c d) k (into_right c d q))
 
@@ -72,13 +52,8 @@ unfolding empty
 empty-same a b A B h = lowest-same (width a) (width b) (width-held a) (width-held b) (width_same a b A B h)
 
 -- ---- records that are alike
-pub record PlainKept (k : Kept) : Type 0 where
-  pub left : Plain k.left
-  pub mid : Plain k.mid
-  pub right : Plain k.right
-
 all_held : (k : Kept) → HeldKept k → HeldEnds (all k)
-all_held k K = merged-held (merged k.left k.mid) k.right (merged-held k.left k.mid K.left K.mid) K.right
+all_held k K = merged-ends (merged k.left k.mid) k.right (merged-ends k.left k.mid K.left K.mid) K.right
 
 module _ (h : Pair) (j k : Kept) (H : HeldEnds h) (J : HeldKept j) (K : HeldKept k) (P : PlainKept j) (Q : PlainKept k) (s : AlikeKept j k) where
   all_alike : Alike (all j) (all k)
@@ -135,14 +110,6 @@ module _ (h : Pair) (j k : Kept) (H : HeldEnds h) (J : HeldKept j) (K : HeldKept
         m = shown-alike j.m k.m j.m k.m J.m K.m s.m s.m;
         codes = s.codes;
       }
-
-pub record-plain : (h : Pair) (ss : List Shape) → PlainKept (record_of h ss)
-record-plain h ss =
-    record {
-      left = gather-plain xs (below (divide h)) (runs_of ss);
-      mid = gather-plain xs (across (divide h)) (runs_of ss);
-      right = gather-plain xs (above (divide h)) (runs_of ss);
-    }
 
 -- both directions of the same members
 other_held : (a b : List Shape) → HeldShapes a → SameMembers a b → HeldShapes b

@@ -1,9 +1,10 @@
 -- What is gathered of a list of runs.
-use Rattle.std.proofs.Common.{◌≡◌, Bool, true, false, cond, T, List, [], ◌∷◌, ◌++◌, map, sym, refl, ap, ◌∙◌, subst, inl, inr, append_assoc, append-nil, arith}
+use Rattle.std.proofs.Common.{◌≡◌, Bool, T, List, [], ◌∷◌, ◌++◌, map, sym, refl, ap, ◌∙◌, subst, inl, inr, append_assoc, append-nil}
 use mathlib.Core.List.Memᴰ
 use mathlib.Core.List.{Memᴰ}
-use lib.Ieee.{Float, eq, le}
-use Rattle.number.proofs.Plain.{eq-is_les}
+use lib.Ieee.Bits.{is_true}
+use Rattle.std.proofs.lemmas.Bool.{cases_Bool, cond_both}
+use Rattle.std.proofs.lemmas.Float.{T_from_true}
 use Rattle.interval.specs.Pairs.{Pair, pair}
 use Rattle.interval.specs.Ordinary.{merged}
 use Rattle.shapes.specs.Source.{Shape}
@@ -11,7 +12,7 @@ use Rattle.bounding.specs.Runs.{Run, Axis, runs, runs_of, hull, gather, xs, ys, 
 use Rattle.bounding.specs.Record.{Kept, record_of, divide, below, above, across, every}
 use Rattle.bounding.specs.Laws.{MergesLists, MergesPages, merged_from, together, Alike, KeepsMembers}
 use Rattle.bounding.proofs.BitSets.{codes-append, codes_same}
-use Rattle.bounding.proofs.Merging.{Plain, Into, merged-assoc, nothing-plain, nothing-merged, merged-plain_right, into_left, into_right, into_merged, into_trans, nothing-into}
+use Rattle.bounding.proofs.Merging.{Plain, Into, merged-assoc, nothing-plain, nothing-merged, merged-plain_right, into_left, into_right, into_merged, into_trans, nothing-into, alike_of}
 
 pub hull-plain : (f : Axis) (r : Run) → Plain (hull f r)
 unfolding hull
@@ -22,53 +23,58 @@ module _ (f : Axis) (p : Pair → Bool) where
   pub gather-plain : (rs : List Run) → Plain (gather f p rs)
   unfolding gather
   gather-plain [] = nothing-plain
-  gather-plain (r ∷ rs) = go (p (hull f r)) (gather-plain rs)
-    where
-      go : (b : Bool) → Plain (gather f p rs) → Plain (cond b (merged (hull f r) (gather f p rs)) (gather f p rs))
-      go true k = merged-plain_right (hull f r) (gather f p rs) k
-      go false k = k
+  gather-plain (r ∷ rs) = let rest = gather-plain rs in cond_both (p (hull f r)) _ _ Plain (λ _. merged-plain_right (hull f r) (gather f p rs) rest) (λ _. rest)
 
   pub gather_append : (a b : List Run) → gather f p (a ++ b) ≡ merged (gather f p a) (gather f p b)
   unfolding gather
   gather_append [] b = sym (nothing-merged (gather f p b) (gather-plain b))
-  gather_append (r ∷ a) b = go (p (hull f r)) (gather_append a b)
-    where
-      go : (t : Bool) → gather f p (a ++ b) ≡ merged (gather f p a) (gather f p b) → cond t (merged (hull f r) (gather f p (a ++ b))) (gather f p (a ++ b)) ≡ merged (cond t (merged (hull f r) (gather f p a)) (gather f p a)) (gather f p b)
-      go true k = ap (merged (hull f r)) k ∙ sym (merged-assoc (hull f r) (gather f p a) (gather f p b))
-      go false k = k
+  gather_append (r ∷ a) b =
+      let rest = gather_append a b in
+      elim (cases_Bool (p (hull f r))) [
+        | inl e ↦ rw e (ap (merged (hull f r)) rest ∙ sym (merged-assoc (hull f r) (gather f p a) (gather f p b)))
+        | inr e ↦ rw e rest
+      ]
 
   -- each hull that passes is within
   pub hull-into : {r : Run} {rs : List Run} → Memᴰ r rs → T (p (hull f r)) → Into (hull f r) (gather f p rs)
   unfolding gather
-  hull-into {r} (Memᴰ.head {x = q} {xs = rs} e) h = subst (λ (z : Run). Into (hull f r) (cond (p (hull f z)) (merged (hull f z) (gather f p rs)) (gather f p rs))) e (go (p (hull f r)) h)
-    where
-      go : (b : Bool) → T b → Into (hull f r) (cond b (merged (hull f r) (gather f p rs)) (gather f p rs))
-      go true h = into_left (hull f r) (gather f p rs) (hull-plain f r)
-      go false h = absurd h
-  hull-into {r} (Memᴰ.tail {x = q} {xs = rs} m) h = go (p (hull f q)) (hull-into m h)
-    where
-      go : (b : Bool) → Into (hull f r) (gather f p rs) → Into (hull f r) (cond b (merged (hull f q) (gather f p rs)) (gather f p rs))
-      go true k = into_trans (hull f r) (gather f p rs) (merged (hull f q) (gather f p rs)) k (into_right (hull f q) (gather f p rs) (gather-plain rs))
-      go false k = k
+  hull-into {r} (Memᴰ.head {x = q} {xs = rs} e) h = rw (← e, is_true (p (hull f r)) h) (into_left (hull f r) (gather f p rs) (hull-plain f r))
+  hull-into {r} (Memᴰ.tail {x = q} {xs = rs} m) h =
+      let rest = hull-into m h in
+      cond_both (p (hull f q)) _ _ (Into (hull f r)) (λ _. into_trans (hull f r) (gather f p rs) (merged (hull f q) (gather f p rs)) rest (into_right (hull f q) (gather f p rs) (gather-plain rs))) (λ _. rest)
 
   -- it is the least that holds them
   pub gather-into : (rs : List Run) (e : Pair) → Plain e → ((r : Run) → Memᴰ r rs → T (p (hull f r)) → Into (hull f r) e) → Into (gather f p rs) e
   unfolding gather
   gather-into [] e k g = nothing-into e k
-  gather-into (r ∷ rs) e k g = go (gather-into rs e k (λ q m. g q (Memᴰ.tail m))) (p (hull f r)) refl
-    where
-      go : Into (gather f p rs) e → (b : Bool) → p (hull f r) ≡ b → Into (cond b (merged (hull f r) (gather f p rs)) (gather f p rs)) e
-      go rest true h = into_merged (hull f r) (gather f p rs) e (g r (Memᴰ.head refl) (subst T (sym h) tt)) rest
-      go rest false h = rest
+  gather-into (r ∷ rs) e k g =
+      let rest = gather-into rs e k (λ q m. g q (Memᴰ.tail m)) in
+      cond_both (p (hull f r)) _ _ (λ z. Into z e) (λ h. into_merged (hull f r) (gather f p rs) e (g r (Memᴰ.head refl) (T_from_true _ h)) rest) (λ _. rest)
 
   pub gather-same : (a b : List Run) → ((r : Run) → Memᴰ r a → Memᴰ r b) → ((r : Run) → Memᴰ r b → Memᴰ r a) → Alike (gather f p a) (gather f p b)
   gather-same a b i j =
-      let u = gather-into a (gather f p b) (gather-plain b) (λ r m h. hull-into (i r m) h) in
-      let v = gather-into b (gather f p a) (gather-plain a) (λ r m h. hull-into (j r m) h) in
-      record { low = level (gather f p a).lo (gather f p b).lo v.low u.low; high = level (gather f p a).hi (gather f p b).hi u.high v.high }
-    where
-      level : (x y : Float) → T (le x y) → T (le y x) → T (eq x y)
-      level x y h k = let e = eq-is_les x y in grind arith
+      alike_of (gather f p a) (gather f p b)
+      (gather-into a (gather f p b) (gather-plain b) (λ r m h. hull-into (i r m) h))
+      (gather-into b (gather f p a) (gather-plain a) (λ r m h. hull-into (j r m) h))
+
+-- every bound of a record is of numbers
+pub record PlainKept (k : Kept) : Type 0 where
+  pub left : Plain k.left
+  pub mid : Plain k.mid
+  pub right : Plain k.right
+  pub y : Plain k.y
+  pub z : Plain k.z
+  pub m : Plain k.m
+
+pub record-plain : (h : Pair) (ss : List Shape) → PlainKept (record_of h ss)
+record-plain h ss = record {
+  left = gather-plain xs (below (divide h)) (runs_of ss);
+  mid = gather-plain xs (across (divide h)) (runs_of ss);
+  right = gather-plain xs (above (divide h)) (runs_of ss);
+  y = gather-plain ys every (runs_of ss);
+  z = gather-plain zs every (runs_of ss);
+  m = gather-plain ms every (runs_of ss);
+}
 
 -- ---- the runs of shapes
 pub runs_append : (a b : List Shape) → runs_of (a ++ b) ≡ runs_of a ++ runs_of b

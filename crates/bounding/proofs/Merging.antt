@@ -1,9 +1,13 @@
 -- Pairs merged: exact laws, for pairs of any floats.
-use Rattle.std.proofs.Common.{◌≡◌, Bool, true, false, cond, not, ◌||◌, T, ap₂, arith}
+use Rattle.std.proofs.Common.{◌≡◌, not, T, ap₂, arith}
 use lib.Ieee.{Float, le, is_nan}
-use Rattle.number.proofs.Plain.{le_trans, le_refl, le_left, le_right, le_total, least_assoc, most_assoc, least_nan_left, most_nan_left, lowest-le, le-highest, least_highest, most_lowest, highest-least, lowest-most}
+use lib.Ieee.Fits.{and_i}
+use Rattle.std.proofs.lemmas.Bool.{cond_both}
+use Rattle.std.proofs.lemmas.Float.{le_trans, le_refl, le_of_eq, le_left, le_right, eq_flip}
+use Rattle.number.proofs.Plain.{le_total, eq-is_les, least_assoc, most_assoc, least_nan_left, most_nan_left, lowest-le, le-highest, least_highest, most_lowest, highest-least, lowest-most}
 use Rattle.interval.specs.Pairs.{Pair, pair, nothing}
 use Rattle.interval.specs.Ordinary.{merged}
+use Rattle.bounding.specs.Laws.{Alike}
 
 abbrev pub Number : Float → Type 0
 Number x = T (not (is_nan x))
@@ -29,12 +33,7 @@ merged-nothing e p = ap₂ pair (least_highest e.lo p.low) (most_lowest e.hi p.h
 pub nan-merged : (v : Float) (e : Pair) → T (is_nan v) → Plain e → merged (pair v v) e ≡ e
 nan-merged v e h p = ap₂ pair (least_nan_left v e.lo h p.low) (most_nan_left v e.hi h p.high)
 
--- ---- which floats are picked
--- what holds of both holds of the one picked
-pub picked : (P : Float → Type 0) (b : Bool) (x y : Float) → P x → P y → P (cond b x y)
-picked P true x y h k = h
-picked P false x y h k = k
-
+-- ---- ends that are numbers
 pub merged-plain_right : (a b : Pair) → Plain b → Plain (merged a b)
 merged-plain_right a b p =
     let l = p.low in
@@ -72,12 +71,23 @@ into_right a b p =
 pub into_merged : (a b c : Pair) → Into a c → Into b c → Into (merged a b) c
 into_merged a b c p q =
     record {
-      low = picked (λ v. T (le c.lo v)) (le a.lo b.lo || is_nan b.lo) a.lo b.lo p.low q.low;
-      high = picked (λ v. T (le v c.hi)) (le b.hi a.hi || is_nan b.hi) a.hi b.hi p.high q.high;
+      low = cond_both _ _ _ (λ v. T (le c.lo v)) (λ _. p.low) (λ _. q.low);
+      high = cond_both _ _ _ (λ v. T (le v c.hi)) (λ _. p.high) (λ _. q.high);
     }
 
 pub into_trans : (a b c : Pair) → Into a b → Into b c → Into a c
 into_trans a b c p q = record { low = le_trans c.lo b.lo a.lo q.low p.low; high = le_trans a.hi b.hi c.hi p.high q.high }
 
 pub nothing-into : (e : Pair) → Plain e → Into nothing e
-nothing-into e p = record { low = le-highest e.lo p.low; high = lowest-le e.hi p.high }
+nothing-into e p = record { low = rw (le-highest e.lo) p.low; high = rw (lowest-le e.hi) p.high }
+
+-- each within the other: equal as numbers
+pub into_of : (a b : Pair) → Alike a b → Into a b × Into b a
+into_of a b h = (
+  record { low = le_of_eq b.lo a.lo (eq_flip a.lo b.lo h.low); high = le_of_eq a.hi b.hi h.high },
+  record { low = le_of_eq a.lo b.lo h.low; high = le_of_eq b.hi a.hi (eq_flip a.hi b.hi h.high) },
+)
+
+pub alike_of : (a b : Pair) → Into a b → Into b a → Alike a b
+alike_of a b p q =
+    record { low = rw (eq-is_les a.lo b.lo) (and_i _ _ q.low p.low); high = rw (eq-is_les a.hi b.hi) (and_i _ _ p.high q.high) }

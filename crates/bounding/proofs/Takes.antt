@@ -1,11 +1,12 @@
 -- What is told of x can be taken by a kind that wraps.
-use Rattle.std.proofs.Common.{◌≡◌, ℕ, Bool, true, false, cond, ◌&&◌, T, ◌⊎◌, List, [], ◌∷◌, Some, None, sym, refl, ap, ◌∙◌, subst, inl, inr, arith}
+use Rattle.std.proofs.Common.{◌≡◌, ℕ, Bool, true, false, cond, ◌&&◌, T, List, Some, None, sym, refl, ◌∙◌, inl, inr, true≢false, arith}
 use lib.Ieee.{Float, nan, inf, fin, binary64, add, sub, div, eq, le, lt}
 use lib.Ieee.Fits.{and_l, and_r}
+use Rattle.std.proofs.lemmas.Bool.{cond_both}
 use Rattle.std.specs.Float.{float_is_finite}
 use Rattle.number.specs.Values.{Held}
 use Rattle.number.proofs.Arith.{sub-lowest, sub-highest}
-use Rattle.number.proofs.Plain.{le_trans, le_of_lt, lt_of_lt_of_le, lt_of_le_of_lt}
+use Rattle.std.proofs.lemmas.Float.{le_left, le_right, le_trans, le_of_lt, lt_of_lt_of_le, lt_of_le_of_lt}
 use Rattle.interval.specs.Pairs.{Pair, pair, empty, width, wraps}
 use Rattle.interval.specs.Ordinary.{merged, middle, half, too_wide}
 use Rattle.interval.specs.Laws.{refusal}
@@ -14,10 +15,10 @@ use Rattle.shapes.specs.Source.{Shape}
 use Rattle.bounding.specs.Runs.{Run, Axis, runs_of, hull, gather, xs}
 use Rattle.bounding.specs.Record.{kept_of, record_of, divide, codes_of, below, above, across}
 use Rattle.bounding.specs.Told.{ordinary, told_x, shown, told}
-use Rattle.bounding.specs.Laws.{HeldEnds, HeldKept, HasValue, Takable}
-use Rattle.bounding.proofs.Merging.{Plain, nothing-merged, merged-plain_right, into_left}
-use Rattle.bounding.proofs.Gathers.{hull-plain, gather-plain, hull-into}
-use Rattle.bounding.proofs.Covers.{no, HeldThree, empty-nothing, upright, raised, hull-none, run-find, find, on_left, on_right, amid, sided, lefts, mids, rights, whole, left-whole, right-whole, hull-whole, whole-none, Halved, halved, lefts-below, rights-above}
+use Rattle.bounding.specs.Laws.{HeldEnds, HeldKept, Takable}
+use Rattle.bounding.proofs.Merging.{Plain, merged-plain_right, into_left}
+use Rattle.bounding.proofs.Gathers.{gather-plain, hull-into}
+use Rattle.bounding.proofs.Covers.{HeldThree, upright, hull-upright, raised, hull-none, run-find, Has, find, gathered, on_left, on_right, amid, sided, lefts, mids, rights, whole, left-whole, right-whole, whole-none, Halved, halved, lefts-below, rights-above}
 
 -- ---- the hint
 no_above : (b : Float) → T (lt (inf false) b) → ⊥
@@ -80,21 +81,13 @@ divide-wraps h a b (H, I) A B p q u v =
     let e = lt_of_le_of_lt h.lo a h.hi u (lt_of_lt_of_le a b h.hi d v) in
     narrower (pair h.hi h.lo) (pair b a) (I, H) (B, A) (turned_wraps h (H, I) e (divide-finite h a b p q)) v u d
 
--- ---- what is gathered is nothing, or goes up
-gather-good : (f : Axis) (p : Pair → Bool) (rs : List Run) → (empty (gather f p rs) ≡ true) ⊎ T (le (gather f p rs).lo (gather f p rs).hi)
-unfolding gather
-gather-good f p [] = inl empty-nothing
-gather-good f p (r ∷ rs) = go (p (hull f r)) (run-find f r) (gather-good f p rs)
-  where
-    go : (b : Bool) → (HasValue f r → ⊥) ⊎ HasValue f r → (empty (gather f p rs) ≡ true) ⊎ T (le (gather f p rs).lo (gather f p rs).hi)
-        → (empty (cond b (merged (hull f r) (gather f p rs)) (gather f p rs)) ≡ true) ⊎ T (le (cond b (merged (hull f r) (gather f p rs)) (gather f p rs)).lo (cond b (merged (hull f r) (gather f p rs)) (gather f p rs)).hi)
-    go false v k = k
-    go true (inr v) k = inr (raised f r (merged (hull f r) (gather f p rs)) (into_left (hull f r) (gather f p rs) (hull-plain f r)) v)
-    go true (inl n) k =
-        subst (λ (e : Pair). (empty e ≡ true) ⊎ T (le e.lo e.hi)) (sym (ap (λ (e : Pair). merged e (gather f p rs)) (hull-none f r n) ∙ nothing-merged (gather f p rs) (gather-plain f p rs))) k
-
+-- ---- what is gathered is empty, or goes up
 pub gather-upright : (f : Axis) (p : Pair → Bool) (rs : List Run) → empty (gather f p rs) ≡ false → T (le (gather f p rs).lo (gather f p rs).hi)
-gather-upright f p rs e = elim (gather-good f p rs) [ inl n ↦ absurd (no true (sym n ∙ e) tt) | inr h ↦ h ]
+gather-upright f p rs e =
+    gathered f p (λ z. T (le z.lo z.hi)) (λ r _. elim (run-find f r) [ inl n ↦ inl (hull-none f r n) | inr v ↦ inr (hull-upright f r v) ])
+    (λ a b h k.
+    let i = into_left a b (record { low = le_left a.lo a.hi h; high = le_right a.lo a.hi h }) in
+    le_trans (merged a b).lo a.lo (merged a b).hi i.low (le_trans a.lo a.hi (merged a b).hi h i.high)) rs e
 
 takes : (e : Pair) → Plain e → (lt e.hi e.lo && empty e) ≡ false → refusal true e ≡ None
 takes e p d = let l = p.low in let h = p.high in grind arith
@@ -103,19 +96,19 @@ module _ (h : Pair) (rs : List Run) (n : ℕ) (H : HeldEnds h) (held : HeldThree
   abbrev t : Float
   t = divide h
 
+  -- a run with a value, where not all is empty
+  some-run : empty (whole t rs) ≡ false → Has xs rs
+  some-run w = elim (find xs rs) [ inl z ↦ absurd (true≢false (sym (whole-none t rs z) ∙ w)) | inr v ↦ v ]
+
   -- both halves have values where x is told as two sides
   sides-stand : Halved h (kept_of t rs n) → empty (whole t rs) ≡ false → empty (lefts t rs) ≡ false
-  sides-stand k w = elim (find xs rs) [
-    | inl z ↦ absurd (no true (sym (whole-none t rs z) ∙ w) tt)
-    | inr v ↦ elim (sided t (hull xs v.0)) [
-      | on_left z ↦ upright (lefts t rs) held.left (raised xs v.0 (lefts t rs) (hull-into xs (below t) v.1 z) v.2)
-      | on_right z ↦ k.paired ∙ upright (rights t rs) held.right (raised xs v.0 (rights t rs) (hull-into xs (above t) v.1 z) v.2)
-      | amid z ↦ absurd (no true (sym k.clear ∙ upright (mids t rs) held.mid (raised xs v.0 (mids t rs) (hull-into xs (across t) v.1 z) v.2)) tt)
-    ]
-  ]
-
-  whole-upright : empty (whole t rs) ≡ false → T (le (whole t rs).lo (whole t rs).hi)
-  whole-upright w = elim (find xs rs) [ inl z ↦ absurd (no true (sym (whole-none t rs z) ∙ w) tt) | inr v ↦ raised xs v.0 (whole t rs) (hull-whole t rs v.0 v.1) v.2 ]
+  sides-stand k w =
+      let (r, m, v) = some-run w in
+      elim (sided t (hull xs r)) [
+        | on_left z ↦ upright (lefts t rs) held.left (raised xs r (lefts t rs) (hull-into xs (below t) m z) v)
+        | on_right z ↦ k.paired ∙ upright (rights t rs) held.right (raised xs r (rights t rs) (hull-into xs (above t) m z) v)
+        | amid z ↦ absurd (true≢false (sym k.clear ∙ upright (mids t rs) held.mid (raised xs r (mids t rs) (hull-into xs (across t) m z) v)))
+      ]
 
   split_wraps : Halved h (kept_of t rs n) → empty (whole t rs) ≡ false → wraps (pair (rights t rs).lo (lefts t rs).hi) ≡ true
   split_wraps k w =
@@ -126,19 +119,18 @@ module _ (h : Pair) (rs : List Run) (n : ℕ) (H : HeldEnds h) (held : HeldThree
       (le_trans (rights t rs).lo (whole t rs).hi h.hi (le_trans (rights t rs).lo (rights t rs).hi (whole t rs).hi (gather-upright xs (above t) rs r) (right-whole t rs).high) (and_r (le h.lo (whole t rs).lo) (le (whole t rs).hi h.hi) k.inside))
 
   takable : Takable (shown (whole t rs) (told_x h (kept_of t rs n)))
-  takable = go (empty (whole t rs)) refl
+  takable =
+      cond_both (empty (whole t rs)) None (Some (told_x h (kept_of t rs n))) Takable (λ _. tt)
+      (λ w. cond_both (ordinary h (kept_of t rs n)) _ _ (λ e. Takable (Some e)) (λ o. whole-takes w) (λ o. halves-take (halved h (kept_of t rs n) o) w))
     where
-      both : (o : Bool) → ordinary h (kept_of t rs n) ≡ o → empty (whole t rs) ≡ false → Takable (Some (cond o (whole t rs) (pair (rights t rs).lo (lefts t rs).hi)))
-      both true e w =
-          takes (whole t rs) (merged-plain_right (merged (lefts t rs) (mids t rs)) (rights t rs) (gather-plain xs (above t) rs)) (grind arith)
-      both false e w =
-          let x = split_wraps (halved h (kept_of t rs n) e) w in
+      whole-takes : empty (whole t rs) ≡ false → Takable (Some (whole t rs))
+      whole-takes w = takes (whole t rs) (merged-plain_right (merged (lefts t rs) (mids t rs)) (rights t rs) (gather-plain xs (above t) rs)) (grind arith)
+
+      halves-take : Halved h (kept_of t rs n) → empty (whole t rs) ≡ false → Takable (Some (pair (rights t rs).lo (lefts t rs).hi))
+      halves-take k w =
+          let x = split_wraps k w in
           let y = wraps-is (pair (rights t rs).lo (lefts t rs).hi) (held.right.0, held.left.1) in
           takes (pair (rights t rs).lo (lefts t rs).hi) (record { low = (gather-plain xs (above t) rs).low; high = (gather-plain xs (below t) rs).high }) (grind arith)
-
-      go : (b : Bool) → empty (whole t rs) ≡ b → Takable (cond b None (Some (told_x h (kept_of t rs n))))
-      go true w = tt
-      go false w = both (ordinary h (kept_of t rs n)) refl w
 
 pub tells-takable : (h : Pair) (ss : List Shape) → HeldEnds h → HeldKept (record_of h ss) → Takable (told h (record_of h ss)).x
 tells-takable h ss H k = takable h (runs_of ss) (codes_of ss) H (record { left = k.left; mid = k.mid; right = k.right })

@@ -1,11 +1,13 @@
 -- The laws of the values from lo to hi, for what `Interval` answers.
-use Rattle.std.proofs.Common.{◌≡◌, Bool, true, false, T, refl, arith}
+use Rattle.std.proofs.Common.{◌≡◌, true, false, T, refl, inl, inr, arith}
+use Rattle.std.proofs.lemmas.Bool.{cases_Bool}
 use lib.Ieee.{Float, nan, inf, fin, lt, le, is_nan}
 use Rattle.std.specs.Float.{float_zero, float_is_finite}
 use Rattle.number.specs.Values.{Held, Value}
-use Rattle.number.proofs.Order.{order, lowest-le, le-highest, least_le, le-most}
+use Rattle.number.proofs.Plain.{lowest-le, le-highest}
+use Rattle.number.proofs.Order.{order, least_held, most_held, least_le, le-most}
 use Rattle.number.proofs.Arith.{zero_held, zero_number, sub-le, le-add, add-held, sub_held}
-use Rattle.interval.specs.Pairs.{Pair, pair, between, stored, nothing, everything}
+use Rattle.interval.specs.Pairs.{Pair, pair, between, nothing, everything}
 use Rattle.interval.specs.Laws.{Inside, Common, Meets, Merges, Adds, Everything}
 use Rattle.interval.specs.Ordinary as Ordinary
 
@@ -27,20 +29,17 @@ all v (V, n) = grind (arith, lowest-le, le-highest)
 pub upward : (p : Pair) (v : Float) → Ends p → Held v → T (between p v) → T (le p.lo p.hi)
 upward p v (A, B) V h = grind order
 
-pub stored-upward : (p : Pair) (v : Float) → le p.lo p.hi ≡ true → between p v ≡ stored p v
-stored-upward p v u = rw u
-
 -- ends farther out lose nothing
 pub outward : (p q : Pair) (v : Float) → Ends p → Ends q → Held v → T (le q.lo p.lo) → T (le p.hi q.hi) → T (between p v) → T (between q v)
 outward p q v (A, B) (C, D) V l r h = grind order
 
 -- the higher of the two lower ends is common to pairs that meet
 pub common : (p q : Pair) → Ends p → Ends q → T (le p.lo p.hi) → T (le q.lo q.hi) → T (Ordinary.meets p q) → Common (between p) (between q)
-common p q (A, B) (C, D) h k m = pick (le p.lo q.lo) refl
-  where
-    pick : (t : Bool) → le p.lo q.lo ≡ t → Common (between p) (between q)
-    pick true e = (q.lo, (C, grind order), grind order, grind order)
-    pick false e = (p.lo, (A, grind order), grind order, grind order)
+common p q (A, B) (C, D) h k m =
+    elim (cases_Bool (le p.lo q.lo)) [
+      | inl e ↦ (q.lo, (C, grind order), grind order, grind order)
+      | inr e ↦ (p.lo, (A, grind order), grind order, grind order)
+    ]
 
 pub meets : (p q : Pair) → Ends p → Ends q → Meets (between p) (between q) (Ordinary.meets p q)
 meets p q (A, B) (C, D) =
@@ -51,6 +50,9 @@ meets p q (A, B) (C, D) =
 
 pub contains : (p q : Pair) → Ends p → Ends q → T (Ordinary.contains p q) → Inside (between q) (between p)
 contains p q (A, B) (C, D) r v (V, n) h = grind order
+
+pub merged-ends : (p q : Pair) → Ends p → Ends q → Ends (Ordinary.merged p q)
+merged-ends p q (A, B) (C, D) = (least_held p.lo q.lo A C, most_held p.hi q.hi B D)
 
 pub merges : (p q : Pair) → Ends p → Ends q → Merges (between p) (between q) (between (Ordinary.merged p q))
 merges p q (A, B) (C, D) = record { mine = λ v (V, n) h. grind (arith, least_le, le-most); yours = λ v (V, n) h. grind (arith, least_le, le-most) }

@@ -1,17 +1,19 @@
 -- The laws of what `WraparoundInterval` answers.
-use Rattle.std.proofs.Common.{◌≡◌, Bool, true, false, cond, ◌&&◌, ◌||◌, T, refl, arith}
+use Rattle.std.proofs.Common.{◌≡◌, Bool, true, false, ◌&&◌, ◌||◌, T, refl, arith}
 use lib.Ieee.{Float, inf, binary64, sub, eq, lt, le, is_nan}
 use lib.Ieee.Fits.{inf-fits}
+use Rattle.std.proofs.lemmas.Bool.{cond_both}
 use Rattle.std.specs.Float.{float_min, float_max}
 use Rattle.number.specs.Values.{Held, Value}
-use Rattle.number.proofs.Order.{order, lowest-le, le-highest, least_held, most_held, least_le, le-most}
+use Rattle.number.proofs.Plain.{lowest-le, le-highest}
+use Rattle.number.proofs.Order.{order, least_held, most_held, least_le, le-most}
 use Rattle.interval.specs.Pairs.{Pair, pair, between, sides, empty, wraps, covered}
 use Rattle.interval.specs.Laws.{Inside, Inhabited, Common, Contains, Merges, Adds, Expands}
 use Rattle.interval.specs.Ordinary as Ordinary
 use Rattle.interval.specs.Wraparound as Wraparound
 use Rattle.interval.specs.Wraparound.{left, right, closed, widens_lower, widened, merged, with_value, expanded}
 use Rattle.interval.proofs.Between as Between
-use Rattle.interval.proofs.Between.{Ends, upward, common}
+use Rattle.interval.proofs.Between.{Ends, upward, common, merged-ends}
 use Rattle.interval.proofs.Wraps.{numbers, narrower, covered-sides, covered-between, between-covered, empty-covers, full_covers, gap_inner, closed-covers}
 
 -- ---- intersects_interval
@@ -128,9 +130,6 @@ contains p q (A, B) (C, D) r v (V, n) h = go (wraps p) (wraps q) refl refl
     go false false e f = rw (covered-between p v e) (Between.contains p q (A, B) (C, D) (rw (e, f) at r) v (V, n) (rw (covered-between q v f) at h))
 
 -- ---- merge_interval
-merged-ends : (p q : Pair) → Ends p → Ends q → Ends (Ordinary.merged p q)
-merged-ends p q (A, B) (C, D) = (least_held p.lo q.lo A C, most_held p.hi q.hi B D)
-
 -- what reaches outward of a pair that wraps covers its values, once closed
 closed-mine : (p q : Pair) → Ends p → Ends q → wraps p ≡ true → T (le q.lo p.lo) → T (le p.hi q.hi) → Inside (covered p) (covered (closed q))
 closed-mine p q (A, B) (C, D) e l h v (V, n) k =
@@ -154,7 +153,10 @@ outer p q (A, B) (C, D) e =
 
 widened-merges : (p q : Pair) → Ends p → Ends q → wraps p ≡ true → wraps q ≡ false → Merges (covered p) (covered q) (covered (widened p q))
 unfolding widened
-widened-merges p q P Q e f = go (widens_lower p q)
+widened-merges p q P Q e f =
+    cond_both (widens_lower p q) _ _ (λ r. Merges (covered p) (covered q) (covered (closed r)))
+    (λ _. record { mine = closed-mine p (pair p.lo (float_max p.hi q.hi)) P (lower-ends p q P Q) e o.0 o.3; yours = lower })
+    (λ _. record { mine = closed-mine p (pair (float_min p.lo q.lo) p.hi) P (upper_ends p q P Q) e o.2 o.1; yours = upper })
   where
     o : T (le p.lo p.lo) × T (le p.hi p.hi) × T (le (float_min p.lo q.lo) p.lo) × T (le p.hi (float_max p.hi q.hi))
     o = outer p q P Q e
@@ -172,10 +174,6 @@ widened-merges p q P Q e f = go (widens_lower p q)
         let (C, D) = Q in
         let s = rw (covered-between q v f) at k in
         closed-covers p (pair (float_min p.lo q.lo) p.hi) v P (upper_ends p q P Q) (V, n) e o.2 o.1 (grind (arith, least_le))
-
-    go : (t : Bool) → Merges (covered p) (covered q) (covered (closed (cond t (pair p.lo (float_max p.hi q.hi)) (pair (float_min p.lo q.lo) p.hi))))
-    go true = record { mine = closed-mine p (pair p.lo (float_max p.hi q.hi)) P (lower-ends p q P Q) e o.0 o.3; yours = lower }
-    go false = record { mine = closed-mine p (pair (float_min p.lo q.lo) p.hi) P (upper_ends p q P Q) e o.2 o.1; yours = upper }
 
 both_merges : (p q : Pair) → Ends p → Ends q → wraps p ≡ true → wraps q ≡ true → Merges (covered p) (covered q) (covered (closed (Ordinary.merged p q)))
 both_merges p q (A, B) (C, D) e f =
@@ -201,16 +199,12 @@ plain_merges p q P Q e f =
 
 pub merges : (p q : Pair) → Ends p → Ends q → Merges (covered p) (covered q) (covered (merged p q))
 unfolding merged
-merges p q P Q = go (empty p) (empty q) (wraps p) (wraps q) refl refl refl refl
-  where
-    go : (x y z w : Bool) → empty p ≡ x → empty q ≡ y → wraps p ≡ z → wraps q ≡ w
-        → Merges (covered p) (covered q) (covered (cond x q (cond y p (cond z (cond w (closed (Ordinary.merged p q)) (widened p q)) (cond w (widened q p) (Ordinary.merged p q))))))
-    go true y z w e f g i = record { mine = λ v (V, n) h. absurd (empty-covers p v P V e h); yours = λ v V h. h }
-    go false true z w e f g i = record { mine = λ v V h. h; yours = λ v (V, n) h. absurd (empty-covers q v Q V f h) }
-    go false false true true e f g i = both_merges p q P Q g i
-    go false false true false e f g i = widened-merges p q P Q g i
-    go false false false true e f g i = let m = widened-merges q p Q P i g in record { mine = m.yours; yours = m.mine }
-    go false false false false e f g i = plain_merges p q P Q g i
+merges p q P Q =
+    let M = λ (r : Pair). Merges (covered p) (covered q) (covered r) in
+    cond_both (empty p) _ _ M (λ e. record { mine = λ v (V, n) h. absurd (empty-covers p v P V e h); yours = λ v V h. h })
+    (λ _. cond_both (empty q) _ _ M (λ f. record { mine = λ v V h. h; yours = λ v (V, n) h. absurd (empty-covers q v Q V f h) })
+    (λ _. cond_both (wraps p) _ _ M (λ g. cond_both (wraps q) _ _ M (λ i. both_merges p q P Q g i) (λ i. widened-merges p q P Q g i))
+    (λ g. cond_both (wraps q) _ _ M (λ i. let m = widened-merges q p Q P i g in record { mine = m.yours; yours = m.mine }) (λ i. plain_merges p q P Q g i))))
 
 -- ---- merge_value
 -- the gap of a pair that wraps, from one of its values outward
@@ -256,29 +250,26 @@ plain_adds p x P X e =
 
 pub adds : (p : Pair) (x : Float) → Ends p → Held x → Adds (covered p) x (covered (with_value p x))
 unfolding with_value
-adds p x P X = go (covered p x) (is_nan x) (wraps p) (lt (sub binary64 x p.hi) (sub binary64 p.lo x)) refl refl refl
-  where
-    go : (s t w n : Bool) → covered p x ≡ s → is_nan x ≡ t → wraps p ≡ w
-        → Adds (covered p) x (covered (cond (s || t) p (cond w (cond n (pair p.lo x) (pair x p.hi)) (Ordinary.with_value p x))))
-    go true t w n e f g = record { old = λ v V h. h; new = λ V. rw e tt }
-    go false true w n e f g = record { old = λ v V h. h; new = λ (V, m). absurd (grind arith) }
-    go false false false n e f g = plain_adds p x P X g
-    go false false true true e f g = lower-adds p x P (X, grind arith) g e
-    go false false true false e f g = upper_adds p x P (X, grind arith) g e
+adds p x P X =
+    let A = λ (r : Pair). Adds (covered p) x (covered r) in
+    cond_both (covered p x || is_nan x) _ _ A (λ s. record { old = λ v V h. h; new = λ (V, m). grind arith })
+    (λ s. cond_both (wraps p) _ _ A
+    (λ g. cond_both (lt (sub binary64 x p.hi) (sub binary64 p.lo x)) _ _ A (λ _. lower-adds p x P (X, grind arith) g (grind arith)) (λ _. upper_adds p x P (X, grind arith) g (grind arith)))
+    (λ g. plain_adds p x P X g))
 
 -- ---- expand_by
 pub expands : (p : Pair) (d : Float) → Ends p → Held d → Expands (covered p) d (covered (expanded p d))
 unfolding expanded
-expands p d P D f = go (Ordinary.unmoved p d) (wraps p) refl refl
-  where
-    go : (u w : Bool) → Ordinary.unmoved p d ≡ u → wraps p ≡ w → Inside (covered p) (covered (cond u p (cond w (closed (Ordinary.moved p d)) (Ordinary.moved p d))))
-    go true w e g = λ v V h. h
-    go false true e g =
-        let (A, B) = numbers p P g in
-        let (x, y) = Between.moves-ends p d A B D f (grind arith) (grind arith) in
-        closed-mine p (Ordinary.moved p d) P (Between.moved_ends p d) g x y
-    go false false e g = λ v (V, n) h.
-        between-covered (Ordinary.moved p d) v (Between.moved_ends p d) V (Between.moves p d P D f (grind arith) (grind arith) v (V, n) (rw (covered-between p v g) at h))
+expands p d P D f =
+    let I = λ (r : Pair). Inside (covered p) (covered r) in
+    cond_both (Ordinary.unmoved p d) _ _ I (λ _ v V h. h)
+    (λ e. cond_both (wraps p) _ _ I
+    (λ g.
+    let (A, B) = numbers p P g in
+    let (x, y) = Between.moves-ends p d A B D f (grind arith) (grind arith) in
+    closed-mine p (Ordinary.moved p d) P (Between.moved_ends p d) g x y)
+    (λ g v (V, n) h.
+    between-covered (Ordinary.moved p d) v (Between.moved_ends p d) V (Between.moves p d P D f (grind arith) (grind arith) v (V, n) (rw (covered-between p v g) at h))))
 
 -- ---- the laws at an answer that is the defined one
 pub contains-at : (p q : Pair) (r : Bool) → Ends p → Ends q → r ≡ Wraparound.contains p q → Contains (covered p) (covered q) r

@@ -2,8 +2,10 @@
 use Rattle.std.proofs.Common.{◌≡◌, Bool, true, false, cond, not, ◌&&◌, ◌||◌, T, refl, ◌∙◌, arith}
 use lib.Ieee.{Float, inf, binary64, sub, eq, lt, le, is_nan}
 use lib.Ieee.Fits.{inf-fits}
+use Rattle.std.proofs.lemmas.Bool.{cond_both}
 use Rattle.number.specs.Values.{Held, Value}
-use Rattle.number.proofs.Order.{order, lowest-le, le-highest}
+use Rattle.number.proofs.Plain.{lowest-le, le-highest}
+use Rattle.number.proofs.Order.{order}
 use Rattle.number.proofs.Arith.{sub-below, sub-lowest, sub-lowest_ends}
 use Rattle.interval.specs.Pairs.{Pair, pair, between, sides, stored, width, empty, wraps, covered, nothing, everything}
 use Rattle.interval.specs.Laws.{Equal, Nothing, Everything}
@@ -33,8 +35,8 @@ numbers p (A, B) e = let d = downward p (A, B) e in ((A, grind order), (B, grind
 pub gap_inner : (p : Pair) → Ends p → wraps p ≡ true → (le (inf false) p.hi ≡ false) × (le p.lo (inf true) ≡ false)
 gap_inner p (A, B) e =
     let d = downward p (A, B) e in
-    let x = le-highest p.lo A in
-    let y = lowest-le p.hi B in
+    let x = le-highest p.lo in
+    let y = lowest-le p.hi in
     (grind (order, inf-fits), grind (order, inf-fits))
 
 -- a narrower gap is a gap still
@@ -76,8 +78,8 @@ covers-all v V = covered-between everything v (upward_plain everything (inf-fits
 -- ends at or beyond the infinities leave nothing out
 pub full_covers : (p : Pair) (v : Float) → Ends p → Value v → T (le p.lo (inf true)) → T (le (inf false) p.hi) → T (between p v)
 full_covers p v (A, B) (V, n) l h =
-    let x = lowest-le v V in
-    let y = le-highest v V in
+    let x = lowest-le v in
+    let y = le-highest v in
     let c : T (le p.lo v) = grind (order, inf-fits) in
     let d : T (le v p.hi) = grind (order, inf-fits) in
     grind arith
@@ -96,14 +98,12 @@ unfolding covered
 parts p v (A, B) V = go (wraps p)
   where
     go : (w : Bool) → (between (cond w (pair (inf true) p.hi) p) v || between (cond w (pair p.lo (inf false)) nothing) v) ≡ cond w (sides p v) (between p v)
-    go true = let a = lowest-le v V in let b = le-highest v V in grind order
+    go true = let a = lowest-le v in let b = le-highest v in grind order
     go false = grind (arith, none)
 
 -- sides moved outward, and closed where they meet, cover the values of both
 pub closed-covers : (p q : Pair) (v : Float) → Ends p → Ends q → Value v → wraps p ≡ true → T (le q.lo p.lo) → T (le p.hi q.hi) → T (sides q v) → T (covered (closed q) v)
 unfolding closed
-closed-covers p q v (A, B) (C, D) (V, n) w l h s = go (le q.lo q.hi) refl
-  where
-    go : (t : Bool) → le q.lo q.hi ≡ t → T (covered (cond t everything q) v)
-    go true e = rw (covers-all v (V, n)) tt
-    go false e = rw (covered-sides q v (narrower p q (A, B) (C, D) w l h (grind order))) s
+closed-covers p q v (A, B) (C, D) (V, n) w l h s =
+    cond_both (le q.lo q.hi) everything q (λ z. T (covered z v)) (λ _. rw (covers-all v (V, n)) tt)
+    (λ e. rw (covered-sides q v (narrower p q (A, B) (C, D) w l h (grind order))) s)

@@ -3,7 +3,8 @@ use Rattle.std.proofs.Common.{◌≡◌, ℕ, zero, suc, ◌+◌, ◌-◌, ◌*�
 use lib.Ieee.{Float, nan, le, lt, is_nan}
 use Rattle.std.specs.Float.{float_min, float_max}
 use Rattle.std.proofs.lemmas.List.{drop-drop}
-use Rattle.number.proofs.Plain.{le_left, le_right, le_of_lt, lt-is_not_le, not_le_of_lt}
+use Rattle.std.proofs.lemmas.Float.{le_left, le_right, le_of_lt}
+use Rattle.number.proofs.Plain.{lt-is_not_le, not_le_of_lt}
 use Rattle.interval.specs.Pairs.{Pair, pair}
 use Rattle.interval.specs.Ordinary.{with_value}
 use Rattle.shapes.specs.declared.endian.Endian.{Endian}

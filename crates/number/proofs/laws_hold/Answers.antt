@@ -1,5 +1,6 @@
 -- Each law from the lemmas on ranks.
 use Rattle.std.proofs.Common.{arith}
+use Rattle.number.proofs.Plain.{lowest-le, le-highest}
 use Rattle.number.proofs.Order as Order
 use Rattle.number.proofs.Order.{order}
 use Rattle.number.proofs.Arith as Arith
@@ -13,8 +14,8 @@ returns c =
         transitive = λ x y z h k l p q. grind order;
         strict = λ x y h k. grind order;
         equal = λ x y h k. grind order;
-        lowest = Order.lowest-le;
-        highest = Order.le-highest;
+        lowest = λ x h. lowest-le x;
+        highest = λ x h. le-highest x;
       };
       alike = record {
         reflexive = Order.same_refl;

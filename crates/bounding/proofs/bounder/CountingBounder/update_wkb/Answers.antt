@@ -12,7 +12,8 @@ use Rattle.bounding.specs.Laws.{HeldCoords}
 use Rattle.bounding.specs.Record.{Kept, place}
 use Rattle.shapes.specs.Hulls.{four, none}
 use Rattle.bounding.specs.Walk.{walk, kept}
-use Rattle.bounding.proofs.Walks.{PlainKept, walk-run, runs-add}
+use Rattle.bounding.proofs.Walks.{walk-run, runs-add}
+use Rattle.bounding.proofs.Gathers.{PlainKept}
 use Rattle.bounding.proofs.bounder.CountingBounder.update_wkb.Goals as goal
 
 held : (cs : List Coord) → AllByRecursion InBinary64 cs → HeldCoords cs

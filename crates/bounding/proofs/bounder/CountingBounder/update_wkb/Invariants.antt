@@ -4,7 +4,7 @@ use Rattle.shapes.specs.Pending.{still}
 use Rattle.shapes.specs.Source.{InBinary64}
 use Rattle.bounding.specs.Walk.{walk, kept}
 use Rattle.shapes.specs.Hulls.{none}
-use Rattle.bounding.proofs.Walks.{PlainKept}
+use Rattle.bounding.proofs.Gathers.{PlainKept}
 use Rattle.bounding.proofs.bounder.CountingBounder.update_wkb.Given as goal
 
 abbrev pub invariant-loop-run : goal.invariant-loop-run

@@ -8,10 +8,10 @@ use Rattle.bounding.specs.Told.{Told, told, shown}
 use Rattle.bounding.specs.Laws.{HeldKept, Tells, CoversAll, Takable, AlikeTold}
 use Rattle.bounding.specs.Walk.{kept, answer, optional, optional_inner}
 use Rattle.bounding.specs.Record.{record_of}
-use Rattle.bounding.proofs.Gathers.{keeps-members}
+use Rattle.bounding.proofs.Gathers.{record-plain, keeps-members}
 use Rattle.bounding.proofs.Covers.{tells-covering}
 use Rattle.bounding.proofs.Ordinates.{keeps-held}
-use Rattle.bounding.proofs.Alikes.{told-alike, record-plain}
+use Rattle.bounding.proofs.Alikes.{told-alike}
 use Rattle.bounding.proofs.Takes.{tells-takable}
 use Rattle.bounding.proofs.records.PageRecord.tell.Goals as goal
 

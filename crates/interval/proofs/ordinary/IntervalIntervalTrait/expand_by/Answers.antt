@@ -1,4 +1,4 @@
-use Rattle.std.proofs.Common.{◌≡◌, true, false, arith, rules}
+use Rattle.std.proofs.Common.{◌≡◌, false, arith, rules}
 use Rattle.number.specs.Values.{Held}
 use Rattle.interval.specs.Pairs.{ends}
 use Rattle.interval.specs.Ordinary.{expanded, unmoved}
@@ -6,11 +6,9 @@ use Rattle.interval.proofs.Literals.{zero_bits}
 use Rattle.interval.proofs.Between.{moves}
 use Rattle.interval.proofs.ordinary.IntervalIntervalTrait.expand_by.Goals as goal
 
-pub returns-then-is_empty-is_nan : goal.returns-then-is_empty-is_nan
+pub returns-then-is_empty-is_nan-clause-exact : goal.returns-then-is_empty-is_nan-clause-exact
 unfolding expanded
-returns-then-is_empty-is_nan c =
-    let u : unmoved (ends c.args.self.now) c.args.distance ≡ true = grind (arith, zero_bits) in
-    record { law = λ f v V h. h; exact = rw u }
+returns-then-is_empty-is_nan-clause-exact c = grind (arith, zero_bits)
 
 pub returns : goal.returns
 unfolding expanded

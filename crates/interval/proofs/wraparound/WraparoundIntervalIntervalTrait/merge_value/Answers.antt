@@ -5,14 +5,9 @@ use Rattle.interval.specs.Wraparound.{with_value}
 use Rattle.interval.proofs.Covers.{adds_at}
 use Rattle.interval.proofs.wraparound.WraparoundIntervalIntervalTrait.merge_value.Goals as goal
 
-pub returns-then-intersects_value-is_nan : goal.returns-then-intersects_value-is_nan
+pub returns-then-intersects_value-is_nan-clause-exact : goal.returns-then-intersects_value-is_nan-clause-exact
 unfolding with_value
-returns-then-intersects_value-is_nan c =
-    let s = c.args.self.now in
-    let v = c.args.value in
-    let h : Held v = search rules in
-    let e : pair s.inner.lo s.inner.hi ≡ with_value (inner_ends s) v = grind arith in
-    record { law = adds_at (inner_ends s) v _ s.inner.held h e; exact = e }
+returns-then-intersects_value-is_nan-clause-exact c = grind arith
 
 pub returns-then-not-is_wraparound : goal.returns-then-not-is_wraparound
 unfolding with_value

@@ -7,11 +7,8 @@ pub fn read_number(word: &str) -> Option<f64>
     ensures { Reads word.now result }
 {
     match word.strip_prefix("0x") {
-        Some(digits) => match bits(digits) {
-            Some(bits) => Some(f64_from_bits_with_nan(bits)),
-            None => None,
-        },
-        None => word.parse::<f64>().ok(),
+        Some(digits) => bits(digits).map(|bits| f64_from_bits_with_nan(bits)),
+        None => word.parse().ok(),
     }
 }
 
@@ -19,10 +16,7 @@ pub fn read_number(word: &str) -> Option<f64>
 fn bits(digits: &str) -> Option<u64>
     ensures { ReadsHex digits.now result }
 {
-    if digits.len() != 16 {
-        return None;
-    }
-    if digits.starts_with('+') {
+    if digits.len() != 16 || digits.starts_with('+') {
         return None;
     }
     u64::from_str_radix(digits, 16).ok()

@@ -62,10 +62,7 @@ impl<'a> Words<'a> {
 
     pub fn kind(&mut self) -> Result<Kind, Wrong<'a>> {
         let word = self.word(Wanted::Kind)?;
-        match Kind::named(word) {
-            Some(kind) => Ok(kind),
-            None => Err(Wrong::UnknownKind(word)),
-        }
+        word.parse().map_err(|_| Wrong::UnknownKind(word))
     }
 
     pub fn number(&mut self) -> Result<f64, Wrong<'a>> {

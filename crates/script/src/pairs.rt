@@ -49,9 +49,9 @@ fn ask<'a, K: Bounds + Drop>(
     function: &'a str,
     words: &mut Words<'a>,
 ) -> Result<Answer, Wrong<'a>> {
-    let Some(named) = Function::named(function) else {
-        return Err(Wrong::UnknownFunction(function));
-    };
+    let named = function
+        .parse()
+        .map_err(|_| Wrong::UnknownFunction(function))?;
     match named {
         Function::Empty => Ok(ends(K::empty())),
         Function::Full => Ok(ends(K::full())),

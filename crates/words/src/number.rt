@@ -13,6 +13,7 @@ pub fn read_number(word: &str) -> Option<f64>
 }
 
 // The number that 16 hexadecimal digits write. A plus, which `from_str_radix` would read, is no digit.
+#[tactic(auto, using(crate::proofs::Hex::hex_from_radix))]
 fn bits(digits: &str) -> Option<u64>
     ensures { ReadsHex digits.now result }
 {

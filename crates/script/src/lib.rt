@@ -3,7 +3,9 @@
 
 mod answer;
 mod bounder;
+mod form;
 mod line;
+mod pair;
 mod pairs;
 mod program;
 mod session;

@@ -1,15 +1,16 @@
 // Questions to a pair: `interval KIND FUNCTION ARGUMENTS`.
-ghost use Rattle.std.specs.Prelude.{◌≡◌, false, Ok, Err};
-ghost use Rattle.script.specs.Tallies.{is_refused};
+ghost use Rattle.std.specs.Prelude.{◌≡◌, Ok, Err, IsOk};
+ghost use Rattle.script.specs.declared.wrong.Refusal.TheVariants.{Asked};
 
 use crate::answer::Answer;
-use crate::line::{Pair, Words};
-use crate::wrong::{Wanted, Wrong};
+use crate::line::Words;
+use crate::pair::Pair;
+use crate::wrong::{NotGranted, Refusal, Wanted, Wrong};
 use interval::{Fault, Interval, IntervalTrait, WraparoundInterval};
 use words::{Function, Kind, OnePair, PairAndValue, TwoPairs};
 
-// A kind of bounds with its named equality, which it has outside the library's trait.
-trait Bounds: IntervalTrait {
+// A kind of bounds with its ends as a pair, and with its named equality, which it has outside the library's trait.
+trait Bounds: IntervalTrait + Into<Pair> + Drop {
     fn equals(&self, other: &Self) -> bool;
 }
 
@@ -25,7 +26,7 @@ impl Bounds for WraparoundInterval {
     }
 }
 
-pub fn obey<'a>(words: &mut Words<'a>) -> Result<Answer, Wrong<'a>> {
+pub fn obey<'a>(words: &mut Words<'a>) -> Result<Answer, NotGranted<'a>> {
     let kind = words.kind()?;
     let function = words.word(Wanted::Function)?;
     let answer = match kind {
@@ -33,11 +34,14 @@ pub fn obey<'a>(words: &mut Words<'a>) -> Result<Answer, Wrong<'a>> {
         Kind::Wraparound => ask_wraparound(function, words)?,
     };
     words.end()?;
-    Ok(answer)
+    Ok(answer?)
 }
 
 // `to_ordinary` is this kind's alone.
-fn ask_wraparound<'a>(function: &'a str, words: &mut Words<'a>) -> Result<Answer, Wrong<'a>> {
+fn ask_wraparound<'a>(
+    function: &'a str,
+    words: &mut Words<'a>,
+) -> Result<Result<Answer, Refusal>, Wrong<'a>> {
     if function == "to_ordinary" {
         let bounds = made::<WraparoundInterval>(words.pair()?);
         return Ok(ends_or_refusal(bounds.to_ordinary()));
@@ -45,39 +49,41 @@ fn ask_wraparound<'a>(function: &'a str, words: &mut Words<'a>) -> Result<Answer
     ask::<WraparoundInterval>(function, words)
 }
 
-fn ask<'a, K: Bounds + Drop>(
+// The line has still to end where the library refuses, so that a refusal is an answer here.
+fn ask<'a, K: Bounds>(
     function: &'a str,
     words: &mut Words<'a>,
-) -> Result<Answer, Wrong<'a>> {
+) -> Result<Result<Answer, Refusal>, Wrong<'a>> {
     let named = function
         .parse()
         .map_err(|_| Wrong::UnknownFunction(function))?;
-    match named {
-        Function::Empty => Ok(ends(K::empty())),
-        Function::Full => Ok(ends(K::full())),
+    let answer = match named {
+        Function::Empty => ends(K::empty()),
+        Function::Full => ends(K::full()),
         Function::Take => {
             let pair = words.pair()?;
-            Ok(ends_or_refusal(K::take(pair.lo, pair.hi)))
+            return Ok(ends_or_refusal(K::take(pair.lo, pair.hi)));
         }
-        Function::OfPair(asked) => Ok(of_pair(asked, made::<K>(words.pair()?))),
-        Function::OfPairAndValue(asked) => Ok(of_pair_and_value(
+        Function::OfPair(asked) => of_pair(asked, made::<K>(words.pair()?)),
+        Function::OfPairAndValue(asked) => of_pair_and_value(
             asked,
             made::<K>(words.pair()?),
             words.number()?,
-        )),
-        Function::OfTwoPairs(asked) => Ok(of_two_pairs(
+        ),
+        Function::OfTwoPairs(asked) => of_two_pairs(
             asked,
             made::<K>(words.pair()?),
             made::<K>(words.pair()?),
-        )),
-    }
+        ),
+    };
+    Ok(Ok(answer))
 }
 
 fn made<K: IntervalTrait>(pair: Pair) -> K {
     K::new(pair.lo, pair.hi)
 }
 
-fn of_pair<K: IntervalTrait + Drop>(asked: OnePair, bounds: K) -> Answer {
+fn of_pair<K: Bounds>(asked: OnePair, bounds: K) -> Answer {
     match asked {
         OnePair::New => ends(bounds),
         OnePair::Lo => Answer::Number(bounds.lo()),
@@ -89,11 +95,7 @@ fn of_pair<K: IntervalTrait + Drop>(asked: OnePair, bounds: K) -> Answer {
     }
 }
 
-fn of_pair_and_value<K: IntervalTrait + Drop>(
-    asked: PairAndValue,
-    bounds: K,
-    value: f64,
-) -> Answer {
+fn of_pair_and_value<K: Bounds>(asked: PairAndValue, bounds: K, value: f64) -> Answer {
     match asked {
         PairAndValue::IntersectsValue => Answer::Yes(bounds.intersects_value(value)),
         PairAndValue::MergeValue => ends(bounds.merge_value(value)),
@@ -101,7 +103,7 @@ fn of_pair_and_value<K: IntervalTrait + Drop>(
     }
 }
 
-fn of_two_pairs<K: Bounds + Drop>(asked: TwoPairs, bounds: K, other: K) -> Answer {
+fn of_two_pairs<K: Bounds>(asked: TwoPairs, bounds: K, other: K) -> Answer {
     match asked {
         TwoPairs::IntersectsInterval => Answer::Yes(bounds.intersects_interval(&other)),
         TwoPairs::ContainsInterval => Answer::Yes(bounds.contains_interval(&other)),
@@ -110,18 +112,13 @@ fn of_two_pairs<K: Bounds + Drop>(asked: TwoPairs, bounds: K, other: K) -> Answe
     }
 }
 
-fn ends<K: IntervalTrait + Drop>(bounds: K) -> Answer
-    ensures { is_refused result ≡ false }
-{
-    Answer::Pair(bounds.lo(), bounds.hi())
+fn ends<K: Bounds>(bounds: K) -> Answer {
+    Answer::Pair(bounds.into())
 }
 
 // A refusal is told as it came.
-fn ends_or_refusal<K: IntervalTrait + Drop>(answer: Result<K, Fault>) -> Answer
-    ensures { elim answer [ Ok k ↦ is_refused result ≡ false | Err fault ↦ result ≡ Answer.Refused fault ] }
+fn ends_or_refusal<K: Bounds>(answer: Result<K, Fault>) -> Result<Answer, Refusal>
+    ensures { elim answer [ Ok k ↦ IsOk result | Err fault ↦ result ≡ Err (Asked fault) ] }
 {
-    match answer {
-        Ok(bounds) => ends(bounds),
-        Err(fault) => Answer::Refused(fault),
-    }
+    answer.map(ends).map_err(Refusal::Asked)
 }

@@ -29,58 +29,48 @@ impl Bounds for WraparoundInterval {
 pub fn obey<'a>(words: &mut Words<'a>) -> Result<Answer, NotGranted<'a>> {
     let kind = words.kind()?;
     let function = words.word(Wanted::Function)?;
-    let answer = match kind {
-        Kind::Ordinary => ask::<Interval>(function, words)?,
-        Kind::Wraparound => ask_wraparound(function, words)?,
+    match kind {
+        Kind::Ordinary => ask::<Interval>(function, words),
+        Kind::Wraparound if function == "to_ordinary" => unwrapped(words),
+        Kind::Wraparound => ask::<WraparoundInterval>(function, words),
+    }
+}
+
+// `to_ordinary` is the wraparound kind's alone.
+fn unwrapped<'a>(words: &mut Words<'a>) -> Result<Answer, NotGranted<'a>> {
+    let bounds: WraparoundInterval = made(words)?;
+    words.end()?;
+    Ok(ends_or_refusal(bounds.to_ordinary())?)
+}
+
+// A line with a word too many is wrong before its answer counts, which may be a refusal.
+fn ask<'a, K: Bounds>(function: &'a str, words: &mut Words<'a>) -> Result<Answer, NotGranted<'a>> {
+    let named = function
+        .parse()
+        .map_err(|_| Wrong::UnknownFunction(function))?;
+    let answer = match named {
+        Function::Empty => Ok(ends(K::empty())),
+        Function::Full => Ok(ends(K::full())),
+        Function::Take => {
+            let Pair { lo, hi } = words.pair()?;
+            ends_or_refusal(K::take(lo, hi))
+        }
+        Function::OfPair(asked) => Ok(of_pair::<K>(asked, made(words)?)),
+        Function::OfPairAndValue(asked) => Ok(of_pair_and_value::<K>(
+            asked,
+            made(words)?,
+            words.number()?,
+        )),
+        Function::OfTwoPairs(asked) => Ok(of_two_pairs::<K>(asked, made(words)?, made(words)?)),
     };
     words.end()?;
     Ok(answer?)
 }
 
-// `to_ordinary` is this kind's alone.
-fn ask_wraparound<'a>(
-    function: &'a str,
-    words: &mut Words<'a>,
-) -> Result<Result<Answer, Refusal>, Wrong<'a>> {
-    if function == "to_ordinary" {
-        let bounds = made::<WraparoundInterval>(words.pair()?);
-        return Ok(ends_or_refusal(bounds.to_ordinary()));
-    }
-    ask::<WraparoundInterval>(function, words)
-}
-
-// The line has still to end where the library refuses, so that a refusal is an answer here.
-fn ask<'a, K: Bounds>(
-    function: &'a str,
-    words: &mut Words<'a>,
-) -> Result<Result<Answer, Refusal>, Wrong<'a>> {
-    let named = function
-        .parse()
-        .map_err(|_| Wrong::UnknownFunction(function))?;
-    let answer = match named {
-        Function::Empty => ends(K::empty()),
-        Function::Full => ends(K::full()),
-        Function::Take => {
-            let pair = words.pair()?;
-            return Ok(ends_or_refusal(K::take(pair.lo, pair.hi)));
-        }
-        Function::OfPair(asked) => of_pair(asked, made::<K>(words.pair()?)),
-        Function::OfPairAndValue(asked) => of_pair_and_value(
-            asked,
-            made::<K>(words.pair()?),
-            words.number()?,
-        ),
-        Function::OfTwoPairs(asked) => of_two_pairs(
-            asked,
-            made::<K>(words.pair()?),
-            made::<K>(words.pair()?),
-        ),
-    };
-    Ok(Ok(answer))
-}
-
-fn made<K: IntervalTrait>(pair: Pair) -> K {
-    K::new(pair.lo, pair.hi)
+// Bounds of that kind from the next two words.
+fn made<'a, K: IntervalTrait>(words: &mut Words<'a>) -> Result<K, Wrong<'a>> {
+    let Pair { lo, hi } = words.pair()?;
+    Ok(K::new(lo, hi))
 }
 
 fn of_pair<K: Bounds>(asked: OnePair, bounds: K) -> Answer {

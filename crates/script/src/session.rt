@@ -100,7 +100,6 @@ impl Session {
 // The summary behind the last answer.
 impl fmt::Display for Session {
     fn fmt<W: fmt::Write>(&self, f: &mut fmt::Formatter<W>) -> fmt::Result {
-        let tally = self.tally;
-        write!(f, "{tally}")
+        self.tally.fmt(f)
     }
 }

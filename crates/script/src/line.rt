@@ -13,7 +13,7 @@ pub struct Words<'a> {
     pub heap: Global,
 }
 
-fn number<'a>(word: &'a str) -> Result<f64, Wrong<'a>> {
+fn number(word: &str) -> Result<f64, Wrong<'_>> {
     read_number(word).ok_or(Wrong::NoNumber(word))
 }
 

@@ -20,10 +20,10 @@ use Rattle.script.specs.declared.pair.Pair as ends
 use Rattle.script.specs.declared.sources.Given.{Given}
 use Rattle.script.specs.declared.sources.Given.TheVariants.{Bytes, Swapped, Table}
 use Rattle.script.specs.declared.answer.Answer.TheVariants.{Counted}
-use Rattle.script.specs.declared.wrong.NotGranted.{NotGranted}
-use Rattle.script.specs.declared.wrong.NotGranted.TheVariants.{Refused, Wrong}
-use Rattle.script.specs.declared.wrong.Refusal.{Refusal}
-use Rattle.script.specs.declared.wrong.Refusal.TheVariants.{Asked, Source}
+use Rattle.script.specs.declared.refusal.NotGranted.{NotGranted}
+use Rattle.script.specs.declared.refusal.NotGranted.TheVariants.{Refused, Wrong}
+use Rattle.script.specs.declared.refusal.Refusal.{Refusal}
+use Rattle.script.specs.declared.refusal.Refusal.TheVariants.{Asked, Source}
 use Rattle.script.specs.declared.wrong.Wrong.TheVariants.{NoMemory}
 
 -- x and y exchanged

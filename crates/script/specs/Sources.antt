@@ -2,8 +2,8 @@
 use Rattle.std.specs.Prelude.{ℕ, ◌/◌, length}
 use Rattle.shapes.specs.Pending.{shape_of}
 use Rattle.shapes.specs.Source.{Shape, exchanged, tabled}
-use Rattle.script.specs.declared.sources.Source.{Source}
-use Rattle.script.specs.declared.sources.Source.TheVariants.{Bytes, Swapped, Table}
+use Rattle.script.specs.declared.source.Source.{Source}
+use Rattle.script.specs.declared.source.Source.TheVariants.{Bytes, Swapped, Table}
 
 -- the code and the coordinates still to come
 abbrev pub means : Source → Shape

@@ -1,8 +1,8 @@
 -- How answered commands are counted, up to the largest number of 64 bits.
 use Rattle.std.specs.Prelude.{◌≡◌, ℕ, ◌+◌, ◌-◌, ◌^◌, min, Some, None, Ok, Err, Option, Result}
 use Rattle.script.specs.declared.session.Tally.{Tally}
-use Rattle.script.specs.declared.wrong.NotGranted.{NotGranted}
-use Rattle.script.specs.declared.wrong.NotGranted.TheVariants.{Refused, Wrong}
+use Rattle.script.specs.declared.refusal.NotGranted.{NotGranted}
+use Rattle.script.specs.declared.refusal.NotGranted.TheVariants.{Refused, Wrong}
 
 abbrev next : ℕ → ℕ
 next n = min (n + 1) (2 ^ 64 - 1)

@@ -9,8 +9,9 @@ ghost use Rattle.script.specs.Meanings.{counted_as, meant, refusal, Reports, Tak
 use crate::answer::{Answer, Bounds};
 use crate::line::Words;
 use crate::pair::Pair;
+use crate::refusal::{NotGranted, Refusal};
 use crate::sources::Given;
-use crate::wrong::{NotGranted, Refusal, Wrong};
+use crate::wrong::Wrong;
 use bounding::{CountingBounder, GeometryBounder};
 use interval::{Interval, IntervalTrait};
 use std::alloc::{AllocError, Global};

@@ -8,7 +8,9 @@ mod line;
 mod pair;
 mod pairs;
 mod program;
+mod refusal;
 mod session;
+mod source;
 mod sources;
 mod wrong;
 

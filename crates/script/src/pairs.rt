@@ -1,11 +1,12 @@
 // Questions to a pair: `interval KIND FUNCTION ARGUMENTS`.
 ghost use Rattle.std.specs.Prelude.{◌≡◌, Ok, Err, IsOk};
-ghost use Rattle.script.specs.declared.wrong.Refusal.TheVariants.{Asked};
+ghost use Rattle.script.specs.declared.refusal.Refusal.TheVariants.{Asked};
 
 use crate::answer::Answer;
 use crate::line::Words;
 use crate::pair::Pair;
-use crate::wrong::{NotGranted, Refusal, Wanted, Wrong};
+use crate::refusal::{NotGranted, Refusal};
+use crate::wrong::{Wanted, Wrong};
 use interval::{Fault, Interval, IntervalTrait, WraparoundInterval};
 use words::{Function, Kind, OnePair, PairAndValue, TwoPairs};
 

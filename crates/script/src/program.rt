@@ -1,6 +1,7 @@
 // Runs a script from the file named as the program's argument, or from standard input where none is named.
+use crate::refusal::NotGranted;
 use crate::session::Session;
-use crate::wrong::{NotGranted, Wrong};
+use crate::wrong::Wrong;
 use std::fs::File;
 use std::io::{BufRead, BufReader, BufWriter, ErrorKind, Write};
 use std::{env, io};

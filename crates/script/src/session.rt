@@ -4,7 +4,8 @@ ghost use Rattle.script.specs.Tallies.{counted, Tallied};
 
 use crate::answer::Answer;
 use crate::line::Words;
-use crate::wrong::{NotGranted, Wrong};
+use crate::refusal::NotGranted;
+use crate::wrong::Wrong;
 use crate::{bounder, pairs, sources};
 use bounding::CountingBounder;
 use std::alloc::Global;

@@ -3,14 +3,16 @@ ghost use Rattle.std.specs.Prelude.{◌≡◌, IfOk, MatchResult};
 ghost use Rattle.shapes.specs.Pending.{shape_of};
 ghost use Rattle.shapes.specs.Wkb.{decode, read, refused};
 ghost use Rattle.script.specs.Meanings.{Shows, meant};
-ghost use Rattle.script.specs.Sources.{means, room};
+ghost use Rattle.script.specs.Sources.{means};
 
 use crate::answer::{Answer, Shape};
 use crate::form::Form;
 use crate::line::Words;
-use crate::wrong::{NotGranted, Refusal, Wrong};
+use crate::refusal::{NotGranted, Refusal};
+use crate::source::Source;
+use crate::wrong::Wrong;
 use interval::Fault;
-use shapes::{Code, Coord, Cursor, ShapeSource, Swapped, Table};
+use shapes::{Coord, Cursor, ShapeSource, Swapped, Table};
 use std::alloc::{AllocError, Global};
 
 // What a source is made of.
@@ -51,48 +53,11 @@ impl Given {
     }
 }
 
+// A cursor over bytes that hold one whole shape.
 fn cursor(bytes: &[u8]) -> Result<Cursor<'_>, Fault>
     ensures { MatchResult result (λ c. decode bytes.now ≡ read c.code (shape_of c).coords) (λ f. decode bytes.now ≡ refused f) }
 {
     Ok(Cursor::new(shapes::check(bytes)?))
-}
-
-// A source over what is given.
-#[derive(Drop)]
-pub enum Source<'a> {
-    Bytes(Cursor<'a>),
-    Swapped(Swapped<Cursor<'a>>),
-    Table(Table<'a>),
-}
-
-impl ShapeSource for Source<'_> {
-    ghost means = { means };
-
-    ghost room = { room };
-
-    fn next(&mut self) -> Option<Coord> {
-        match self {
-            Source::Bytes(source) => source.next(),
-            Source::Swapped(source) => source.next(),
-            Source::Table(source) => source.next(),
-        }
-    }
-
-    fn code(&self) -> Code {
-        match self {
-            Source::Bytes(source) => source.code(),
-            Source::Swapped(source) => source.code(),
-            Source::Table(source) => source.code(),
-        }
-    }
-
-    fn left(&self) -> usize {
-        match self {
-            Source::Bytes(source) => source.left(),
-            Source::Swapped(source) => source.left(),
-            Source::Table(source) => source.left(),
-        }
-    }
 }
 
 pub fn obey<'a>(form: Form, words: &mut Words<'a>) -> Result<Answer, NotGranted<'a>> {

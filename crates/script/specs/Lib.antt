@@ -1,2 +1,4 @@
+pub mod Forms
 pub mod Meanings
+pub mod Sources
 pub mod Tallies

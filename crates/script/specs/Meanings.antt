@@ -1,5 +1,5 @@
 -- What a source that a script gives means, and what is answered of it.
-use Rattle.std.specs.Prelude.{◌≡◌, ℕ, List, map, Some, None, vec_items, Option}
+use Rattle.std.specs.Prelude.{◌≡◌, ℕ, List, map, Some, None, Ok, Err, vec_items, Option, Result}
 use Rattle.interval.specs.Faults.{at}
 use Rattle.interval.specs.Pairs.{Pair, pair}
 use Rattle.interval.specs.declared.fault.Cause.TheVariants.{TableCode}
@@ -15,11 +15,16 @@ use Rattle.bounding.specs.Told.{Told}
 use Rattle.bounding.specs.Walk.{Adds}
 use Rattle.script.specs.declared.answer.Answer.{Answer}
 use Rattle.script.specs.declared.answer.Bounds as told
-use Rattle.script.specs.declared.line.Pair as line
+use Rattle.script.specs.declared.answer.Shape as shown
+use Rattle.script.specs.declared.pair.Pair as ends
 use Rattle.script.specs.declared.sources.Given.{Given}
 use Rattle.script.specs.declared.sources.Given.TheVariants.{Bytes, Swapped, Table}
-use Rattle.script.specs.declared.answer.Answer.TheVariants.{Number, Yes, Refused, Shape, Counting, Counted, SourceRefused, Bounds}
-use Rattle.script.specs.declared.answer.Answer.TheVariants as answer
+use Rattle.script.specs.declared.answer.Answer.TheVariants.{Counted}
+use Rattle.script.specs.declared.refusal.NotGranted.{NotGranted}
+use Rattle.script.specs.declared.refusal.NotGranted.TheVariants.{Refused, Wrong}
+use Rattle.script.specs.declared.refusal.Refusal.{Refusal}
+use Rattle.script.specs.declared.refusal.Refusal.TheVariants.{Asked, Source}
+use Rattle.script.specs.declared.wrong.Wrong.TheVariants.{NoMemory}
 
 -- x and y exchanged
 abbrev pub swapped_of : Decoded → Decoded
@@ -41,27 +46,22 @@ meant (Swapped v) = swapped_of (decode (vec_items v))
 meant (Table n cs) = table_of n (vec_items cs)
 
 -- how it is told that what is given is refused: bytes are refused by the bounder, and else the source is not there
-abbrev pub refusal : Given → Fault → Answer
-refusal (Bytes v) f = Refused f
-refusal (Swapped v) f = SourceRefused f
-refusal (Table n cs) f = SourceRefused f
+abbrev pub refusal : Given → Fault → Refusal
+refusal (Bytes v) f = Asked f
+refusal (Swapped v) f = Source f
+refusal (Table n cs) f = Source f
 
--- the answer is the shape that was read, or the refusal
-abbrev pub Shows : Decoded → Answer → Type 0
-Shows d (Shape s) = d ≡ read s.code (vec_items s.coords)
-Shows d (Refused f) = d ≡ refused f
-Shows d (Number x) = ⊥
-Shows d (answer.Pair lo hi) = ⊥
-Shows d (Yes b) = ⊥
-Shows d Counting = ⊥
-Shows d Counted = ⊥
-Shows d (SourceRefused f) = ⊥
-Shows d (Bounds b) = ⊥
+-- the answer is the shape that was read, or the refusal; or memory ran out
+abbrev pub Shows : Decoded → Result shown.Shape NotGranted → Type 0
+Shows d (Ok s) = d ≡ read s.code (vec_items s.coords)
+Shows d (Err (Refused (Asked f))) = d ≡ refused f
+Shows d (Err (Refused (Source f))) = ⊥
+Shows d (Err (Wrong w)) = w ≡ NoMemory
 
 -- a shape is counted, and a refusal is told in that way
-abbrev pub counted_as : (Fault → Answer) → Decoded → Answer
-counted_as way (refused f) = way f
-counted_as way (read c cs) = Counted
+abbrev pub counted_as : (Fault → Refusal) → Decoded → Result Answer Refusal
+counted_as way (refused f) = Err (way f)
+counted_as way (read c cs) = Ok Counted
 
 -- what a bounder with the hint h keeps: the shape was added to k, or k is as it was
 abbrev pub Takes : Decoded → Pair → Kept → Kept → Type 0
@@ -69,7 +69,7 @@ Takes (refused f) h k l = l ≡ k
 Takes (read c cs) h k l = Adds h k (record { code = c; coords = cs }) l
 
 -- the ends of an axis that is told
-abbrev pub ends_of : Option line.Pair → Option Pair
+abbrev pub ends_of : Option ends.Pair → Option Pair
 ends_of None = None
 ends_of (Some p) = Some (pair p.lo p.hi)
 

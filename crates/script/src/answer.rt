@@ -1,9 +1,5 @@
-// What a command is answered.
-ghost use Rattle.std.specs.Prelude.{◌≡◌};
-ghost use Rattle.script.specs.Tallies.{is_refused};
-
-use crate::line::Pair;
-use interval::Fault;
+// What a command that is granted is answered.
+use crate::pair::Pair;
 use shapes::{Code, Coord};
 use std::fmt;
 
@@ -27,27 +23,17 @@ pub struct Bounds {
 #[derive(Drop)]
 pub enum Answer {
     Number(f64),
-    Pair(f64, f64),
+    Pair(Pair),
     Yes(bool),
-    Refused(Fault),
     Shape(Shape),
     Counting,
     Counted,
-    SourceRefused(Fault),
     Bounds(Bounds),
-}
-
-impl Answer {
-    pub fn is_refused(&self) -> bool
-        ensures { result ≡ is_refused self.now }
-    {
-        matches!(self, Answer::Refused(_) | Answer::SourceRefused(_))
-    }
 }
 
 impl fmt::Display for Shape {
     fn fmt<W: fmt::Write>(&self, f: &mut fmt::Formatter<W>) -> fmt::Result {
-        let code = self.code.number();
+        let code = u32::from(self.code);
         write!(f, "code {code}")?;
         for coord in self.coords.iter() {
             let Coord { x, y, z, m, joins } = *coord;
@@ -58,24 +44,13 @@ impl fmt::Display for Shape {
     }
 }
 
-// An axis with its name and a blank behind it, or nothing.
-fn write_axis<W: fmt::Write>(
-    f: &mut fmt::Formatter<W>,
-    name: &str,
-    bounds: Option<Pair>,
-) -> fmt::Result {
-    match bounds {
-        Some(Pair { lo, hi }) => write!(f, "{name} {lo:?} {hi:?} "),
-        None => Ok(()),
-    }
-}
-
 impl fmt::Display for Bounds {
     fn fmt<W: fmt::Write>(&self, f: &mut fmt::Formatter<W>) -> fmt::Result {
-        write_axis(f, "x", self.x)?;
-        write_axis(f, "y", self.y)?;
-        write_axis(f, "z", self.z)?;
-        write_axis(f, "m", self.m)?;
+        for (name, axis) in [("x", self.x), ("y", self.y), ("z", self.z), ("m", self.m)] {
+            if let Some(ends) = axis {
+                write!(f, "{name} {ends} ")?;
+            }
+        }
         f.write_str("codes")?;
         if self.codes.is_empty() {
             f.write_str(" none")?;
@@ -91,14 +66,12 @@ impl fmt::Display for Answer {
     fn fmt<W: fmt::Write>(&self, f: &mut fmt::Formatter<W>) -> fmt::Result {
         match self {
             Answer::Number(value) => write!(f, "{value:?}"),
-            Answer::Pair(lo, hi) => write!(f, "{lo:?} {hi:?}"),
+            Answer::Pair(ends) => write!(f, "{ends}"),
             Answer::Yes(true) => f.write_str("yes"),
             Answer::Yes(false) => f.write_str("no"),
-            Answer::Refused(fault) => write!(f, "{fault}"),
             Answer::Shape(shape) => write!(f, "{shape}"),
             Answer::Counting => f.write_str("counting"),
             Answer::Counted => f.write_str("counted"),
-            Answer::SourceRefused(fault) => write!(f, "source {fault}"),
             Answer::Bounds(bounds) => write!(f, "{bounds}"),
         }
     }

@@ -3,10 +3,14 @@
 
 mod answer;
 mod bounder;
+mod form;
 mod line;
+mod pair;
 mod pairs;
 mod program;
+mod refusal;
 mod session;
+mod source;
 mod sources;
 mod wrong;
 

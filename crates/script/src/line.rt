@@ -1,4 +1,6 @@
 // The words of a line, taken one by one from its front.
+use crate::form::Form;
+use crate::pair::Pair;
 use crate::wrong::{Wanted, Wrong};
 use shapes::Coord;
 use std::alloc::Global;
@@ -8,20 +10,11 @@ use words::{Kind, read_bytes, read_number};
 #[derive(Drop)]
 pub struct Words<'a> {
     rest: SplitAsciiWhitespace<'a>,
+    pub heap: Global,
 }
 
-// Two ends as a script gives them, not yet of any kind of bounds.
-#[derive(Clone, Copy)]
-pub struct Pair {
-    pub lo: f64,
-    pub hi: f64,
-}
-
-fn number<'a>(word: &'a str) -> Result<f64, Wrong<'a>> {
-    match read_number(word) {
-        Some(value) => Ok(value),
-        None => Err(Wrong::NoNumber(word)),
-    }
+fn number(word: &str) -> Result<f64, Wrong<'_>> {
+    read_number(word).ok_or(Wrong::NoNumber(word))
 }
 
 // `x,y,z,m`, with a `+` in front where it joins the one before.
@@ -35,16 +28,14 @@ fn read_coordinate(word: &str) -> Option<Coord> {
     let y = read_number(axes.next()?)?;
     let z = read_number(axes.next()?)?;
     let m = read_number(axes.next()?)?;
-    match axes.next() {
-        Some(_) => None,
-        None => Some(Coord { x, y, z, m, joins }),
-    }
+    axes.next().is_none().then_some(Coord { x, y, z, m, joins })
 }
 
 impl<'a> Words<'a> {
-    pub fn of(line: &'a str) -> Self {
+    pub fn new(heap: Global, line: &'a str) -> Self {
         Words {
             rest: line.split_ascii_whitespace(),
+            heap,
         }
     }
 
@@ -54,18 +45,17 @@ impl<'a> Words<'a> {
     }
 
     pub fn word(&mut self, wanted: Wanted) -> Result<&'a str, Wrong<'a>> {
-        match self.next() {
-            Some(word) => Ok(word),
-            None => Err(Wrong::Missing(wanted)),
-        }
+        self.next().ok_or(Wrong::Missing(wanted))
     }
 
     pub fn kind(&mut self) -> Result<Kind, Wrong<'a>> {
         let word = self.word(Wanted::Kind)?;
-        match Kind::named(word) {
-            Some(kind) => Ok(kind),
-            None => Err(Wrong::UnknownKind(word)),
-        }
+        word.parse().map_err(|_| Wrong::UnknownKind(word))
+    }
+
+    pub fn form(&mut self) -> Result<Form, Wrong<'a>> {
+        let word = self.word(Wanted::Form)?;
+        word.parse().map_err(|_| Wrong::UnknownForm(word))
     }
 
     pub fn number(&mut self) -> Result<f64, Wrong<'a>> {
@@ -88,30 +78,21 @@ impl<'a> Words<'a> {
         Ok(Some(Pair { lo, hi }))
     }
 
-    pub fn bytes(&mut self, heap: Global) -> Result<Vec<u8>, Wrong<'a>> {
+    pub fn bytes(&mut self) -> Result<Vec<u8>, Wrong<'a>> {
         let word = self.word(Wanted::Bytes)?;
-        match read_bytes(heap, word)? {
-            Some(bytes) => Ok(bytes),
-            None => Err(Wrong::NoBytes(word)),
-        }
+        read_bytes(self.heap, word)?.ok_or(Wrong::NoBytes(word))
     }
 
     pub fn code(&mut self) -> Result<u32, Wrong<'a>> {
         let word = self.word(Wanted::Code)?;
-        match word.parse::<u32>() {
-            Ok(code) => Ok(code),
-            Err(_) => Err(Wrong::NoCode(word)),
-        }
+        word.parse().map_err(|_| Wrong::NoCode(word))
     }
 
     // All words that are left, as coordinates.
-    pub fn coordinates(&mut self, heap: Global) -> Result<Vec<Coord>, Wrong<'a>> {
-        let mut coords = Vec::new(heap);
+    pub fn coordinates(&mut self) -> Result<Vec<Coord>, Wrong<'a>> {
+        let mut coords = Vec::new(self.heap);
         for word in self.rest.by_ref() {
-            match read_coordinate(word) {
-                Some(coord) => coords.push(coord)?,
-                None => return Err(Wrong::NoCoordinate(word)),
-            }
+            coords.push(read_coordinate(word).ok_or(Wrong::NoCoordinate(word))?)?;
         }
         Ok(coords)
     }

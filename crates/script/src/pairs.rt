@@ -1,15 +1,17 @@
 // Questions to a pair: `interval KIND FUNCTION ARGUMENTS`.
-ghost use Rattle.std.specs.Prelude.{◌≡◌, false, Ok, Err};
-ghost use Rattle.script.specs.Tallies.{is_refused};
+ghost use Rattle.std.specs.Prelude.{◌≡◌, Ok, Err, IsOk};
+ghost use Rattle.script.specs.declared.refusal.Refusal.TheVariants.{Asked};
 
 use crate::answer::Answer;
-use crate::line::{Pair, Words};
+use crate::line::Words;
+use crate::pair::Pair;
+use crate::refusal::{NotGranted, Refusal};
 use crate::wrong::{Wanted, Wrong};
 use interval::{Fault, Interval, IntervalTrait, WraparoundInterval};
 use words::{Function, Kind, OnePair, PairAndValue, TwoPairs};
 
-// A kind of bounds with its named equality, which it has outside the library's trait.
-trait Bounds: IntervalTrait {
+// A kind of bounds with its ends as a pair, and with its named equality, which it has outside the library's trait.
+trait Bounds: IntervalTrait + Into<Pair> + Drop {
     fn equals(&self, other: &Self) -> bool;
 }
 
@@ -25,59 +27,54 @@ impl Bounds for WraparoundInterval {
     }
 }
 
-pub fn obey<'a>(words: &mut Words<'a>) -> Result<Answer, Wrong<'a>> {
+pub fn obey<'a>(words: &mut Words<'a>) -> Result<Answer, NotGranted<'a>> {
     let kind = words.kind()?;
     let function = words.word(Wanted::Function)?;
-    let answer = match kind {
-        Kind::Ordinary => ask::<Interval>(function, words)?,
-        Kind::Wraparound => ask_wraparound(function, words)?,
-    };
-    words.end()?;
-    Ok(answer)
-}
-
-// `to_ordinary` is this kind's alone.
-fn ask_wraparound<'a>(function: &'a str, words: &mut Words<'a>) -> Result<Answer, Wrong<'a>> {
-    if function == "to_ordinary" {
-        let bounds = made::<WraparoundInterval>(words.pair()?);
-        return Ok(ends_or_refusal(bounds.to_ordinary()));
+    match kind {
+        Kind::Ordinary => ask::<Interval>(function, words),
+        Kind::Wraparound if function == "to_ordinary" => unwrapped(words),
+        Kind::Wraparound => ask::<WraparoundInterval>(function, words),
     }
-    ask::<WraparoundInterval>(function, words)
 }
 
-fn ask<'a, K: Bounds + Drop>(
-    function: &'a str,
-    words: &mut Words<'a>,
-) -> Result<Answer, Wrong<'a>> {
-    let Some(named) = Function::named(function) else {
-        return Err(Wrong::UnknownFunction(function));
-    };
-    match named {
+// `to_ordinary` is the wraparound kind's alone.
+fn unwrapped<'a>(words: &mut Words<'a>) -> Result<Answer, NotGranted<'a>> {
+    let bounds: WraparoundInterval = made(words)?;
+    words.end()?;
+    Ok(ends_or_refusal(bounds.to_ordinary())?)
+}
+
+// A line with a word too many is wrong before its answer counts, which may be a refusal.
+fn ask<'a, K: Bounds>(function: &'a str, words: &mut Words<'a>) -> Result<Answer, NotGranted<'a>> {
+    let named = function
+        .parse()
+        .map_err(|_| Wrong::UnknownFunction(function))?;
+    let answer = match named {
         Function::Empty => Ok(ends(K::empty())),
         Function::Full => Ok(ends(K::full())),
         Function::Take => {
-            let pair = words.pair()?;
-            Ok(ends_or_refusal(K::take(pair.lo, pair.hi)))
+            let Pair { lo, hi } = words.pair()?;
+            ends_or_refusal(K::take(lo, hi))
         }
-        Function::OfPair(asked) => Ok(of_pair(asked, made::<K>(words.pair()?))),
-        Function::OfPairAndValue(asked) => Ok(of_pair_and_value(
+        Function::OfPair(asked) => Ok(of_pair::<K>(asked, made(words)?)),
+        Function::OfPairAndValue(asked) => Ok(of_pair_and_value::<K>(
             asked,
-            made::<K>(words.pair()?),
+            made(words)?,
             words.number()?,
         )),
-        Function::OfTwoPairs(asked) => Ok(of_two_pairs(
-            asked,
-            made::<K>(words.pair()?),
-            made::<K>(words.pair()?),
-        )),
-    }
+        Function::OfTwoPairs(asked) => Ok(of_two_pairs::<K>(asked, made(words)?, made(words)?)),
+    };
+    words.end()?;
+    Ok(answer?)
 }
 
-fn made<K: IntervalTrait>(pair: Pair) -> K {
-    K::new(pair.lo, pair.hi)
+// Bounds of that kind from the next two words.
+fn made<'a, K: IntervalTrait>(words: &mut Words<'a>) -> Result<K, Wrong<'a>> {
+    let Pair { lo, hi } = words.pair()?;
+    Ok(K::new(lo, hi))
 }
 
-fn of_pair<K: IntervalTrait + Drop>(asked: OnePair, bounds: K) -> Answer {
+fn of_pair<K: Bounds>(asked: OnePair, bounds: K) -> Answer {
     match asked {
         OnePair::New => ends(bounds),
         OnePair::Lo => Answer::Number(bounds.lo()),
@@ -89,11 +86,7 @@ fn of_pair<K: IntervalTrait + Drop>(asked: OnePair, bounds: K) -> Answer {
     }
 }
 
-fn of_pair_and_value<K: IntervalTrait + Drop>(
-    asked: PairAndValue,
-    bounds: K,
-    value: f64,
-) -> Answer {
+fn of_pair_and_value<K: Bounds>(asked: PairAndValue, bounds: K, value: f64) -> Answer {
     match asked {
         PairAndValue::IntersectsValue => Answer::Yes(bounds.intersects_value(value)),
         PairAndValue::MergeValue => ends(bounds.merge_value(value)),
@@ -101,7 +94,7 @@ fn of_pair_and_value<K: IntervalTrait + Drop>(
     }
 }
 
-fn of_two_pairs<K: Bounds + Drop>(asked: TwoPairs, bounds: K, other: K) -> Answer {
+fn of_two_pairs<K: Bounds>(asked: TwoPairs, bounds: K, other: K) -> Answer {
     match asked {
         TwoPairs::IntersectsInterval => Answer::Yes(bounds.intersects_interval(&other)),
         TwoPairs::ContainsInterval => Answer::Yes(bounds.contains_interval(&other)),
@@ -110,18 +103,13 @@ fn of_two_pairs<K: Bounds + Drop>(asked: TwoPairs, bounds: K, other: K) -> Answe
     }
 }
 
-fn ends<K: IntervalTrait + Drop>(bounds: K) -> Answer
-    ensures { is_refused result ≡ false }
-{
-    Answer::Pair(bounds.lo(), bounds.hi())
+fn ends<K: Bounds>(bounds: K) -> Answer {
+    Answer::Pair(bounds.into())
 }
 
 // A refusal is told as it came.
-fn ends_or_refusal<K: IntervalTrait + Drop>(answer: Result<K, Fault>) -> Answer
-    ensures { elim answer [ Ok k ↦ is_refused result ≡ false | Err fault ↦ result ≡ Answer.Refused fault ] }
+fn ends_or_refusal<K: Bounds>(answer: Result<K, Fault>) -> Result<Answer, Refusal>
+    ensures { elim answer [ Ok k ↦ IsOk result | Err fault ↦ result ≡ Err (Asked fault) ] }
 {
-    match answer {
-        Ok(bounds) => ends(bounds),
-        Err(fault) => Answer::Refused(fault),
-    }
+    answer.map(ends).map_err(Refusal::Asked)
 }

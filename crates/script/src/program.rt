@@ -1,4 +1,5 @@
 // Runs a script from the file named as the program's argument, or from standard input where none is named.
+use crate::refusal::NotGranted;
 use crate::session::Session;
 use crate::wrong::Wrong;
 use std::fs::File;
@@ -9,87 +10,85 @@ use std::{env, io};
 #[derive(Clone, Copy, Debug)]
 pub struct Stopped;
 
+// Why a run ends before the script does.
+#[derive(Drop)]
+enum End {
+    Told(Stopped),
+    Untold(io::Error),
+}
+
+impl From<io::Error> for End {
+    fn from(error: io::Error) -> Self {
+        End::Untold(error)
+    }
+}
+
 pub fn run(rt: &HostRuntime) -> Result<(), Stopped> {
     match run_named(rt) {
-        Ok(true) => Ok(()),
-        Ok(false) => Err(Stopped),
-        Err(error) => {
+        Ok(()) => Ok(()),
+        Err(End::Told(stopped)) => Err(stopped),
+        Err(End::Untold(error)) => {
             let _ = eprintln!(rt; "{error}");
             Err(Stopped)
         }
     }
 }
 
-fn run_named(rt: &HostRuntime) -> io::Result<bool> {
-    let mut out = BufWriter::new(rt.alloc(), rt.stdout())?;
+fn run_named(rt: &HostRuntime) -> Result<(), End> {
+    let out = BufWriter::new(rt.alloc(), rt.stdout())?;
+    let mut console = Console { rt, out };
     let mut names = env::args(rt)?.skip(1);
     let Some(name) = names.next() else {
-        return answer_lines(rt, BufReader::new(rt.alloc(), rt.stdin())?, &mut out);
+        return console.answer_lines(BufReader::new(rt.alloc(), rt.stdin())?);
     };
     if let Some(extra) = names.next() {
         eprintln!(rt; "'{extra}' is an argument too many")?;
-        return Ok(false);
+        return Err(End::Told(Stopped));
     }
     match File::open(rt, name.as_str()) {
-        Ok(file) => answer_lines(rt, BufReader::new(rt.alloc(), file)?, &mut out),
+        Ok(file) => console.answer_lines(BufReader::new(rt.alloc(), file)?),
         Err(error) => {
             eprintln!(rt; "{name}: {error}")?;
-            Ok(false)
+            Err(End::Told(Stopped))
         }
     }
 }
 
-// Whether every line was blank, a comment or a command, so that the script came to its end.
-fn answer_lines<B: BufRead + Drop, W: Write>(
-    rt: &HostRuntime,
-    input: B,
-    out: &mut W,
-) -> io::Result<bool> {
-    let mut session = Session::new();
-    for (line, number) in input.lines(rt.alloc()).zip(1u64..) {
-        let line = match line {
-            Ok(line) => line,
-            Err(error) if error.kind() == ErrorKind::InvalidData => return stop_at(
-                rt,
-                number,
-                Wrong::NotText,
-                out,
-            ),
-            Err(error) => return Err(error),
-        };
-        if !answer_line(rt, &mut session, number, line.as_str(), out)? {
-            return Ok(false);
+// Where the answers to a script go, and where it is told why it stops.
+#[derive(Drop)]
+struct Console<'a, W> {
+    rt: &'a HostRuntime,
+    out: W,
+}
+
+impl<W: Write> Console<'_, W> {
+    fn answer_lines<B: BufRead + Drop>(&mut self, input: B) -> Result<(), End> {
+        let mut session = Session::new(self.rt.alloc());
+        for (line, number) in input.lines(self.rt.alloc()).zip(1u64..) {
+            let line = match line {
+                Ok(line) => line,
+                Err(error) if error.kind() == ErrorKind::InvalidData => return self.stop_at(
+                    number,
+                    Wrong::NotText,
+                ),
+                Err(error) => return Err(End::Untold(error)),
+            };
+            match session.answer(line.as_str()) {
+                Ok(Some(answer)) => writeln!(self.out, "{number}: {answer}")?,
+                Ok(None) => {}
+                Err(NotGranted::Refused(refusal)) => writeln!(self.out, "{number}: {refusal}")?,
+                Err(NotGranted::Wrong(wrong)) => return self.stop_at(number, wrong),
+            }
         }
+        writeln!(self.out, "\n{session}")?;
+        self.out.flush()?;
+        Ok(())
     }
-    writeln!(out, "\n{session}")?;
-    out.flush()?;
-    Ok(true)
-}
 
-// Whether the script goes on.
-fn answer_line<W: Write>(
-    rt: &HostRuntime,
-    session: &mut Session,
-    number: u64,
-    line: &str,
-    out: &mut W,
-) -> io::Result<bool> {
-    match session.answer(rt.alloc(), line) {
-        Ok(Some(answer)) => writeln!(out, "{number}: {answer}")?,
-        Ok(None) => {}
-        Err(wrong) => return stop_at(rt, number, wrong, out),
+    // The answers go out before the script's fault is told.
+    fn stop_at(&mut self, number: u64, wrong: Wrong<'_>) -> Result<(), End> {
+        self.out.flush()?;
+        eprintln!(self.rt; "line {number}: {wrong}")?;
+        Err(End::Told(Stopped))
     }
-    Ok(true)
-}
-
-// The answers go out before the script's fault is told.
-fn stop_at<W: Write>(
-    rt: &HostRuntime,
-    number: u64,
-    wrong: Wrong<'_>,
-    out: &mut W,
-) -> io::Result<bool> {
-    out.flush()?;
-    eprintln!(rt; "line {number}: {wrong}")?;
-    Ok(false)
 }

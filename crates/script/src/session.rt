@@ -4,6 +4,7 @@ ghost use Rattle.script.specs.Tallies.{counted, Tallied};
 
 use crate::answer::Answer;
 use crate::line::Words;
+use crate::refusal::NotGranted;
 use crate::wrong::Wrong;
 use crate::{bounder, pairs, sources};
 use bounding::CountingBounder;
@@ -11,37 +12,27 @@ use std::alloc::Global;
 use std::fmt;
 
 // How many commands were answered, and how.
-#[derive(Clone, Copy)]
+#[derive(Clone, Copy, Default)]
 struct Tally {
     granted: u64,
     refused: u64,
 }
 
 impl Tally {
-    fn new() -> Self
-        ensures { (result.granted ≡ 0) × (result.refused ≡ 0) }
+    fn count<T>(&mut self, outcome: &Result<T, NotGranted<'_>>)
+        ensures { self.new ≡ counted self.old outcome.now }
     {
-        Tally {
-            granted: 0,
-            refused: 0,
-        }
-    }
-
-    fn count(&mut self, refused: bool)
-        ensures { self.new ≡ counted self.old refused }
-    {
-        if refused {
-            self.refused = self.refused.saturating_add(1);
-        } else {
-            self.granted = self.granted.saturating_add(1);
+        match outcome {
+            Ok(_) => self.granted = self.granted.saturating_add(1),
+            Err(NotGranted::Refused(_)) => self.refused = self.refused.saturating_add(1),
+            Err(NotGranted::Wrong(_)) => {}
         }
     }
 }
 
 impl fmt::Display for Tally {
     fn fmt<W: fmt::Write>(&self, f: &mut fmt::Formatter<W>) -> fmt::Result {
-        let granted = self.granted;
-        let refused = self.refused;
+        let Tally { granted, refused } = *self;
         let commands = granted.saturating_add(refused);
         write!(
             f,
@@ -52,51 +43,57 @@ impl fmt::Display for Tally {
 
 #[derive(Drop)]
 pub struct Session {
+    heap: Global,
     tally: Tally,
     bounder: Option<CountingBounder>,
 }
 
 impl Session {
-    pub fn new() -> Self
+    pub fn new(heap: Global) -> Self
         ensures { (result.tally.granted ≡ 0) × (result.tally.refused ≡ 0) }
     {
         Session {
-            tally: Tally::new(),
+            heap,
+            tally: Tally::default(),
             bounder: None,
         }
     }
 
     // The answer to a line's command. A blank line or a comment has none.
-    pub fn answer<'a>(&mut self, heap: Global, line: &'a str) -> Result<Option<Answer>, Wrong<'a>>
+    pub fn answer<'a>(&mut self, line: &'a str) -> Result<Option<Answer>, NotGranted<'a>>
         ensures { Tallied self.old.tally result self.new.tally }
     {
-        let mut words = Words::of(line);
+        let mut words = Words::new(self.heap, line);
         let Some(command) = words.next() else {
             return Ok(None);
         };
         if command.starts_with('#') {
             return Ok(None);
         }
-        let answer = self.obey(heap, command, &mut words)?;
-        self.tally.count(answer.is_refused());
-        Ok(Some(answer))
+        let outcome = self.obey(command, &mut words);
+        self.tally.count(&outcome);
+        outcome.map(Some)
     }
 
     fn obey<'a>(
         &mut self,
-        heap: Global,
         command: &'a str,
         words: &mut Words<'a>,
-    ) -> Result<Answer, Wrong<'a>>
+    ) -> Result<Answer, NotGranted<'a>>
         ensures { self.new.tally ≡ self.old.tally }
     {
         match command {
             "interval" => pairs::obey(words),
-            "shape" | "swapped" | "table" => sources::obey(heap, command, words),
-            "bounder" | "count" | "bounds" => {
-                bounder::obey(heap, command, &mut self.bounder, words)
+            "bounder" => {
+                self.bounder = Some(bounder::begin(words)?);
+                Ok(Answer::Counting)
             }
-            _ => Err(Wrong::UnknownCommand(command)),
+            "count" => bounder::count(self.bounder.as_mut().ok_or(Wrong::NoBounder)?, words),
+            "bounds" => bounder::bounds(self.bounder.as_ref().ok_or(Wrong::NoBounder)?, words),
+            _ => {
+                let form = command.parse().map_err(|_| Wrong::UnknownCommand(command))?;
+                sources::obey(form, words)
+            }
         }
     }
 }
@@ -104,7 +101,6 @@ impl Session {
 // The summary behind the last answer.
 impl fmt::Display for Session {
     fn fmt<W: fmt::Write>(&self, f: &mut fmt::Formatter<W>) -> fmt::Result {
-        let tally = self.tally;
-        write!(f, "{tally}")
+        self.tally.fmt(f)
     }
 }

@@ -1,11 +1,17 @@
 // Shapes as a script gives them: `shape HEX`, `swapped HEX` and `table CODE COORD...`.
-ghost use Rattle.std.specs.Prelude.{◌≡◌, IfOk};
-ghost use Rattle.shapes.specs.Wkb.{decode};
-ghost use Rattle.script.specs.Meanings.{Shows, meant, swapped_of, table_of};
+ghost use Rattle.std.specs.Prelude.{◌≡◌, IfOk, MatchResult};
+ghost use Rattle.shapes.specs.Pending.{shape_of};
+ghost use Rattle.shapes.specs.Wkb.{decode, read, refused};
+ghost use Rattle.script.specs.Meanings.{Shows, meant};
+ghost use Rattle.script.specs.Sources.{means};
 
 use crate::answer::{Answer, Shape};
+use crate::form::Form;
 use crate::line::Words;
+use crate::refusal::{NotGranted, Refusal};
+use crate::source::Source;
 use crate::wrong::Wrong;
+use interval::Fault;
 use shapes::{Coord, Cursor, ShapeSource, Swapped, Table};
 use std::alloc::{AllocError, Global};
 
@@ -18,78 +24,53 @@ pub enum Given {
 }
 
 impl Given {
-    // What the line gives behind the word for its form.
-    pub fn read<'a>(
-        heap: Global,
-        form: &'a str,
-        words: &mut Words<'a>,
-    ) -> Result<Given, Wrong<'a>> {
+    // What the line gives in that form.
+    pub fn read<'a>(form: Form, words: &mut Words<'a>) -> Result<Given, Wrong<'a>> {
         let given = match form {
-            "shape" => Given::Bytes(words.bytes(heap)?),
-            "swapped" => Given::Swapped(words.bytes(heap)?),
-            "table" => {
+            Form::Shape => Given::Bytes(words.bytes()?),
+            Form::Swapped => Given::Swapped(words.bytes()?),
+            Form::Table => {
                 let code = words.code()?;
-                Given::Table(code, words.coordinates(heap)?)
+                Given::Table(code, words.coordinates()?)
             }
-            _ => return Err(Wrong::UnknownForm(form)),
         };
         words.end()?;
         Ok(given)
     }
-}
 
-pub fn obey<'a>(heap: Global, form: &'a str, words: &mut Words<'a>) -> Result<Answer, Wrong<'a>> {
-    let given = Given::read(heap, form, words)?;
-    Ok(shown(heap, &given)?)
-}
-
-// The shape that is given, or the refusal.
-fn shown(heap: Global, given: &Given) -> Result<Answer, AllocError>
-    ensures { IfOk result (λ a. Shows (meant given.now) a) }
-{
-    match given {
-        Given::Bytes(bytes) => of_bytes(heap, bytes.as_slice()),
-        Given::Swapped(bytes) => of_swapped(heap, bytes.as_slice()),
-        Given::Table(code, coords) => of_table(heap, *code, coords.as_slice()),
-    }
-}
-
-fn of_bytes(heap: Global, bytes: &[u8]) -> Result<Answer, AllocError>
-    ensures { IfOk result (λ a. Shows (decode bytes.now) a) }
-{
-    match shapes::check(bytes) {
-        Ok(checked) => {
-            let mut source = Cursor::new(checked);
-            Ok(Answer::Shape(gather(heap, &mut source)?))
+    // A source of the shape that is given, or the refusal.
+    pub fn source(&self) -> Result<Source<'_>, Fault>
+        ensures { MatchResult result (λ s. meant self.now ≡ read (means s).code (means s).coords) (λ f. meant self.now ≡ refused f) }
+    {
+        match self {
+            Given::Bytes(bytes) => Ok(Source::Bytes(cursor(bytes.as_slice())?)),
+            Given::Swapped(bytes) => {
+                let inner = cursor(bytes.as_slice())?;
+                Ok(Source::Swapped(Swapped { inner }))
+            }
+            Given::Table(code, coords) => Ok(Source::Table(Table::new(*code, coords.as_slice())?)),
         }
-        Err(fault) => Ok(Answer::Refused(fault)),
     }
 }
 
-fn of_swapped(heap: Global, bytes: &[u8]) -> Result<Answer, AllocError>
-    ensures { IfOk result (λ a. Shows (swapped_of (decode bytes.now)) a) }
+// A cursor over bytes that hold one whole shape.
+fn cursor(bytes: &[u8]) -> Result<Cursor<'_>, Fault>
+    ensures { MatchResult result (λ c. decode bytes.now ≡ read c.code (shape_of c).coords) (λ f. decode bytes.now ≡ refused f) }
 {
-    match shapes::check(bytes) {
-        Ok(checked) => {
-            let mut source = Swapped {
-                inner: Cursor::new(checked),
-            };
-            Ok(Answer::Shape(gather(heap, &mut source)?))
-        }
-        Err(fault) => Ok(Answer::Refused(fault)),
-    }
+    Ok(Cursor::new(shapes::check(bytes)?))
 }
 
-fn of_table(heap: Global, code: u32, coords: &[Coord]) -> Result<Answer, AllocError>
-    ensures { IfOk result (λ a. Shows (table_of code coords.now) a) }
+pub fn obey<'a>(form: Form, words: &mut Words<'a>) -> Result<Answer, NotGranted<'a>> {
+    let given = Given::read(form, words)?;
+    Ok(Answer::Shape(shown(words.heap, &given)?))
+}
+
+// The shape that is given.
+fn shown<'a>(heap: Global, given: &Given) -> Result<Shape, NotGranted<'a>>
+    ensures { Shows (meant given.now) result }
 {
-    match Table::new(code, coords) {
-        Ok(table) => {
-            let mut source = table;
-            Ok(Answer::Shape(gather(heap, &mut source)?))
-        }
-        Err(fault) => Ok(Answer::Refused(fault)),
-    }
+    let mut source = given.source().map_err(Refusal::Asked)?;
+    Ok(gather(heap, &mut source)?)
 }
 
 // All that a source gives.

@@ -3,7 +3,7 @@ use std::alloc::{AllocError, AllocFailed};
 use std::fmt;
 
 // What a command still needs where its line ends.
-#[derive(Clone, Copy)]
+#[derive(Clone, Copy, Debug)]
 pub enum Wanted {
     Kind,
     Function,
@@ -27,7 +27,7 @@ impl fmt::Display for Wanted {
 }
 
 // What is wrong with a line, and the word that shows it.
-#[derive(Clone, Copy)]
+#[derive(Clone, Copy, Debug)]
 pub enum Wrong<'a> {
     NotText,
     NoMemory,

@@ -1,14 +1,10 @@
 -- Texts of hexadecimal digits.
-use Rattle.std.proofs.Common.{◌≡◌, ℕ, ◌^◌, ◌<◌, Bool, cond, List, length, get_or, drop, Ok, Err, Result, ap, subst, arith}
+use Rattle.std.proofs.Common.{◌≡◌, ℕ, ◌^◌, ◌<◌, List, length, get_or, Ok, Err, Result, subst, arith}
 use Rattle.std.specs.Result.{OkIff, result_ok}
-use Rattle.std.specs.Str.Parse.{IsNumeral, ParsesUnsigned, without_leading_plus, digits_value}
+use Rattle.std.specs.Str.Parse.{IsNumeral, ParsesUnsigned, digits_value}
 use Rattle.std.proofs.lemmas.Int.Digits.{digits_value-lt}
-use Rattle.std.proofs.lemmas.Bool.{ne_eqb}
+use Rattle.std.proofs.lemmas.Str.Parse.{without_leading_plus_none}
 use Rattle.words.specs.Readings.{Hex, ReadsHex}
-
--- a text that does not begin with a plus is read whole
-whole : (ds : List ℕ) → (get_or ds 0 0 ≡ 43 → ⊥) → without_leading_plus ds ≡ ds
-whole ds h = ap (λ (b : Bool). drop (cond b 1 0) ds) (ne_eqb (get_or ds 0 0) 43 h)
 
 -- 16 digits write a number of 64 bits
 small : (ds : List ℕ) → Hex ds → digits_value 16 ds < 2 ^ 64
@@ -23,4 +19,4 @@ hex_from_read ds (Err e) l h = λ x. h ((omega (arith, l), x.1), small ds x)
 
 -- what `from_str_radix` reads of 16 bytes that do not begin with a plus
 pub hex_from_radix : {E : Type 0} (ds : List ℕ) (s : Result ℕ E) → length ds ≡ 16 → (get_or ds 0 0 ≡ 43 → ⊥) → ParsesUnsigned 64 16 ds s → ReadsHex ds (result_ok s)
-hex_from_radix ds s l p h = hex_from_read ds s l (subst (λ (t : List ℕ). Read t s) (whole ds p) h)
+hex_from_radix ds s l p h = hex_from_read ds s l (subst (λ (t : List ℕ). Read t s) (without_leading_plus_none ds p) h)

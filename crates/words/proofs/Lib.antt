@@ -1,2 +1,2 @@
-mod Fronts
+mod Pairs
 mod Hex

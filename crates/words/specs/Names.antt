@@ -1,6 +1,6 @@
 -- What a word of a script names.
-use Rattle.std.specs.Prelude.{◌≡◌, ℕ, List, Option, MatchOption, ◌≢◌}
+use Rattle.std.specs.Prelude.{◌≡◌, ℕ, List, Result, MatchResult, ◌≢◌}
 
--- r is the thing that the word w names, where name gives each its word, and none where w names nothing
-abbrev pub Named : {X : Type 0} → (X → List ℕ) → List ℕ → Option X → Type 0
-Named {X} name w r = MatchOption r ((x : X) → w ≢ name x) (λ x. w ≡ name x)
+-- r is the thing that the word w names, where name gives each its word, and an error where w names nothing
+abbrev pub Named : {X E : Type 0} → (X → List ℕ) → List ℕ → Result X E → Type 0
+Named {X} name w r = MatchResult r (λ x. w ≡ name x) (λ _. (x : X) → w ≢ name x)

@@ -9,12 +9,8 @@ use std::alloc::{AllocError, Global};
 fn byte(high: u8, low: u8) -> Option<u8>
     ensures { MatchOption result ((b : ℕ) → TwoDigits high low b → ⊥) (TwoDigits high low) }
 {
-    let Some(sixteens) = char::from(high).to_digit(16) else {
-        return None;
-    };
-    let Some(ones) = char::from(low).to_digit(16) else {
-        return None;
-    };
+    let sixteens = char::from(high).to_digit(16)?;
+    let ones = char::from(low).to_digit(16)?;
     Some((16 * sixteens + ones) as u8)
 }
 
@@ -25,12 +21,12 @@ pub fn read_bytes(heap: Global, word: &str) -> Result<Option<Vec<u8>>, AllocErro
     if word == "-" {
         return Ok(Some(found));
     }
-    let digits = word.as_bytes();
-    if digits.len() % 2 == 1 {
+    let (pairs, rest) = word.as_bytes().as_chunks::<2>();
+    if !rest.is_empty() {
         return Ok(None);
     }
-    for at in 0..digits.len() / 2 {
-        match byte(digits[2 * at], digits[2 * at + 1]) {
+    for [high, low] in pairs {
+        match byte(*high, *low) {
             Some(b) => found.push(b)?,
             None => return Ok(None),
         }

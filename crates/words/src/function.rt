@@ -2,8 +2,11 @@
 ghost use Rattle.words.specs.Functions.{one_pair_word, pair_and_value_word, two_pairs_word, function_word};
 ghost use Rattle.words.specs.Names.{Named};
 
+use crate::unknown::UnknownWord;
+use std::str::FromStr;
+
 // What a pair is asked alone.
-#[derive(Clone, Copy)]
+#[derive(Clone, Copy, Debug, PartialEq, Eq)]
 pub enum OnePair {
     New,
     Lo,
@@ -15,7 +18,7 @@ pub enum OnePair {
 }
 
 // What a pair is asked about a number.
-#[derive(Clone, Copy)]
+#[derive(Clone, Copy, Debug, PartialEq, Eq)]
 pub enum PairAndValue {
     IntersectsValue,
     MergeValue,
@@ -23,7 +26,7 @@ pub enum PairAndValue {
 }
 
 // What a pair is asked about another.
-#[derive(Clone, Copy)]
+#[derive(Clone, Copy, Debug, PartialEq, Eq)]
 pub enum TwoPairs {
     IntersectsInterval,
     ContainsInterval,
@@ -31,7 +34,7 @@ pub enum TwoPairs {
     Same,
 }
 
-#[derive(Clone, Copy)]
+#[derive(Clone, Copy, Debug, PartialEq, Eq)]
 pub enum Function {
     Empty,
     Full,
@@ -41,70 +44,75 @@ pub enum Function {
     OfTwoPairs(TwoPairs),
 }
 
-impl OnePair {
-    fn named(word: &str) -> Option<OnePair>
-        ensures { Named one_pair_word word.now result }
-    {
+impl FromStr for OnePair {
+    type Err = UnknownWord;
+
+    ghost from_str_gives = { Named one_pair_word };
+
+    fn from_str(word: &str) -> Result<OnePair, UnknownWord> {
         match word {
-            "new" => Some(OnePair::New),
-            "lo" => Some(OnePair::Lo),
-            "hi" => Some(OnePair::Hi),
-            "is_wraparound" => Some(OnePair::IsWraparound),
-            "width" => Some(OnePair::Width),
-            "mid" => Some(OnePair::Mid),
-            "is_empty" => Some(OnePair::IsEmpty),
-            _ => None,
+            "new" => Ok(OnePair::New),
+            "lo" => Ok(OnePair::Lo),
+            "hi" => Ok(OnePair::Hi),
+            "is_wraparound" => Ok(OnePair::IsWraparound),
+            "width" => Ok(OnePair::Width),
+            "mid" => Ok(OnePair::Mid),
+            "is_empty" => Ok(OnePair::IsEmpty),
+            _ => Err(UnknownWord),
         }
     }
 }
 
-impl PairAndValue {
-    fn named(word: &str) -> Option<PairAndValue>
-        ensures { Named pair_and_value_word word.now result }
-    {
+impl FromStr for PairAndValue {
+    type Err = UnknownWord;
+
+    ghost from_str_gives = { Named pair_and_value_word };
+
+    fn from_str(word: &str) -> Result<PairAndValue, UnknownWord> {
         match word {
-            "intersects_value" => Some(PairAndValue::IntersectsValue),
-            "merge_value" => Some(PairAndValue::MergeValue),
-            "expand_by" => Some(PairAndValue::ExpandBy),
-            _ => None,
+            "intersects_value" => Ok(PairAndValue::IntersectsValue),
+            "merge_value" => Ok(PairAndValue::MergeValue),
+            "expand_by" => Ok(PairAndValue::ExpandBy),
+            _ => Err(UnknownWord),
         }
     }
 }
 
-impl TwoPairs {
-    fn named(word: &str) -> Option<TwoPairs>
-        ensures { Named two_pairs_word word.now result }
-    {
+impl FromStr for TwoPairs {
+    type Err = UnknownWord;
+
+    ghost from_str_gives = { Named two_pairs_word };
+
+    fn from_str(word: &str) -> Result<TwoPairs, UnknownWord> {
         match word {
-            "intersects_interval" => Some(TwoPairs::IntersectsInterval),
-            "contains_interval" => Some(TwoPairs::ContainsInterval),
-            "merge_interval" => Some(TwoPairs::MergeInterval),
-            "same" => Some(TwoPairs::Same),
-            _ => None,
+            "intersects_interval" => Ok(TwoPairs::IntersectsInterval),
+            "contains_interval" => Ok(TwoPairs::ContainsInterval),
+            "merge_interval" => Ok(TwoPairs::MergeInterval),
+            "same" => Ok(TwoPairs::Same),
+            _ => Err(UnknownWord),
         }
     }
 }
 
-impl Function {
-    // The function that the word names.
-    pub fn named(word: &str) -> Option<Function>
-        ensures { Named function_word word.now result }
-    {
+impl FromStr for Function {
+    type Err = UnknownWord;
+
+    ghost from_str_gives = { Named function_word };
+
+    fn from_str(word: &str) -> Result<Function, UnknownWord> {
         match word {
-            "empty" => return Some(Function::Empty),
-            "full" => return Some(Function::Full),
-            "take" => return Some(Function::Take),
-            _ => {}
-        }
-        if let Some(function) = OnePair::named(word) {
-            return Some(Function::OfPair(function));
-        }
-        if let Some(function) = PairAndValue::named(word) {
-            return Some(Function::OfPairAndValue(function));
-        }
-        match TwoPairs::named(word) {
-            Some(function) => Some(Function::OfTwoPairs(function)),
-            None => None,
+            "empty" => Ok(Function::Empty),
+            "full" => Ok(Function::Full),
+            "take" => Ok(Function::Take),
+            _ => {
+                if let Ok(asked) = word.parse() {
+                    Ok(Function::OfPair(asked))
+                } else if let Ok(asked) = word.parse() {
+                    Ok(Function::OfPairAndValue(asked))
+                } else {
+                    Ok(Function::OfTwoPairs(word.parse()?))
+                }
+            }
         }
     }
 }

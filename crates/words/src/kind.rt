@@ -2,21 +2,25 @@
 ghost use Rattle.words.specs.Names.{Named};
 ghost use Rattle.words.specs.Kinds.{kind_word};
 
-#[derive(Clone, Copy)]
+use crate::unknown::UnknownWord;
+use std::str::FromStr;
+
+#[derive(Clone, Copy, Debug, PartialEq, Eq)]
 pub enum Kind {
     Ordinary,
     Wraparound,
 }
 
-impl Kind {
-    // The kind that the word names.
-    pub fn named(word: &str) -> Option<Kind>
-        ensures { Named kind_word word.now result }
-    {
+impl FromStr for Kind {
+    type Err = UnknownWord;
+
+    ghost from_str_gives = { Named kind_word };
+
+    fn from_str(word: &str) -> Result<Kind, UnknownWord> {
         match word {
-            "ordinary" => Some(Kind::Ordinary),
-            "wraparound" => Some(Kind::Wraparound),
-            _ => None,
+            "ordinary" => Ok(Kind::Ordinary),
+            "wraparound" => Ok(Kind::Wraparound),
+            _ => Err(UnknownWord),
         }
     }
 }

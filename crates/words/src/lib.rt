@@ -5,8 +5,10 @@ mod bytes;
 mod function;
 mod kind;
 mod number;
+mod unknown;
 
 pub use bytes::read_bytes;
 pub use function::{Function, OnePair, PairAndValue, TwoPairs};
 pub use kind::Kind;
 pub use number::read_number;
+pub use unknown::UnknownWord;

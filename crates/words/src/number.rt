@@ -7,22 +7,17 @@ pub fn read_number(word: &str) -> Option<f64>
     ensures { Reads word.now result }
 {
     match word.strip_prefix("0x") {
-        Some(digits) => match bits(digits) {
-            Some(bits) => Some(f64_from_bits_with_nan(bits)),
-            None => None,
-        },
-        None => word.parse::<f64>().ok(),
+        Some(digits) => bits(digits).map(|bits| f64_from_bits_with_nan(bits)),
+        None => word.parse().ok(),
     }
 }
 
 // The number that 16 hexadecimal digits write. A plus, which `from_str_radix` would read, is no digit.
+#[tactic(auto, using(crate::proofs::Hex::hex_from_radix))]
 fn bits(digits: &str) -> Option<u64>
     ensures { ReadsHex digits.now result }
 {
-    if digits.len() != 16 {
-        return None;
-    }
-    if digits.starts_with('+') {
+    if digits.len() != 16 || digits.starts_with('+') {
         return None;
     }
     u64::from_str_radix(digits, 16).ok()

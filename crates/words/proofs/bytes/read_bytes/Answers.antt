@@ -1,23 +1,25 @@
-use Rattle.std.proofs.Common.{◌≡◌, ℕ, ◌+◌, ◌*◌, ◌/◌, ◌<◌, List, length, get_or, vec_items, codes, sym, subst, rules}
-use Rattle.std.proofs.lemmas.Result.{err_from_is_err_and}
-use Rattle.words.specs.Bytes.{TwoDigits}
-use Rattle.words.proofs.Fronts.{Front, front_more, no_bytes}
+use Rattle.std.proofs.Common.{◌≡◌, ◌+◌, ◌/◌, ◌%◌, ◌<◌, ℕ, length, inr, sym, subst, codes, rules}
+use Rattle.words.proofs.Pairs.{Front, Pairs, front_more, hex_from_pairs, no_bytes}
 use Rattle.words.proofs.bytes.read_bytes.Goals as goal
-
-pub returns-in_err-push-in-Some : goal.returns-in_err-push-in-Some
-returns-in_err-push-in-Some c = let p = err_from_is_err_and c.from_residual.result c.from_residual.ensures.1 in rw p.1 tt
 
 pub returns-in-None : goal.returns-in-None
 returns-in-None c =
     let w = c.args.word.now in
     let plain : w ≡ codes "-" → ⊥ = search rules in
-    let short : c.loop-at.at < length w / 2 = search rules in
-    let same : c.as_bytes-digits.result.now ≡ w = c.as_bytes-digits.ensures.value in
-    no_bytes w c.loop-at.at plain short (subst (λ (ds : List ℕ). (b : ℕ) → TwoDigits (get_or ds (2 * c.loop-at.at) 0) (get_or ds (2 * c.loop-at.at + 1) 0) b → ⊥) same c.in-None.ensures)
+    let short : c.loop-high.high-index < length w / 2 = search rules in
+    let pairs : Pairs w c.as_chunks.result.0.now = cc in
+    no_bytes w _ pairs c.loop-high.high-index plain short c.in-None.ensures
 
-pub loop-at-preserved : goal.loop-at-preserved
-loop-at-preserved c =
-    let ds = c.as_bytes-digits.result.now in
-    let xs = vec_items c.loop-at.found in
-    let b = c.in-Some.b in
-    subst (Front ds (c.loop-at.at + 1)) (sym c.in_ok-push-in-Some.ensures.items) (front_more ds c.loop-at.at xs b c.loop-at.invariant c.in-Some.ensures)
+pub loop-high-preserved : goal.loop-high-preserved
+loop-high-preserved c =
+    let ps = c.as_chunks.result.0.now in
+    subst (Front ps (c.loop-high.high-index + 1)) (sym c.in_ok-push-in-Some.ensures.items)
+    (front_more ps c.loop-high.high-index c.loop-high.found.items c.in-Some.b c.loop-high.invariant c.in-Some.ensures)
+
+pub returns : goal.returns
+returns c =
+    let w = c.args.word.now in
+    let pairs : Pairs w c.as_chunks.result.0.now = cc in
+    let even : length w % 2 ≡ 0 = search rules in
+    let all : c.loop-high.high-index ≡ length w / 2 = search rules in
+    inr (hex_from_pairs w c.loop-high.found.items _ pairs even (subst (λ (n : ℕ). Front c.as_chunks.result.0.now n c.loop-high.found.items) all c.loop-high.invariant))

@@ -1,5 +1,5 @@
 -- Windows and records that were handed, and the verdict on them.
-use Rattle.std.proofs.Common.{◌≡◌, ℕ, ◌^◌, Bool, true, false, cond, ◌&&◌, ◌||◌, T, eqb, ltb, List, [], ◌∷◌, Some, None, Ok, Err, Option, Result, sym, refl, ap, ◌∙◌, subst, inl, inr, append-nil, arith, MatchResult}
+use Rattle.std.proofs.Common.{◌≡◌, ℕ, ◌^◌, Bool, true, false, cond, ◌&&◌, ◌||◌, T, ltb, List, [], ◌∷◌, Some, None, Ok, Err, Option, Result, sym, refl, ap, ◌∙◌, subst, inl, inr, append-nil, arith, MatchResult}
 use mathlib.Core.List.{Memᴰ}
 use lib.Ieee.{Float, nan, inf, fin, eq, is_nan, sub, add, neg}
 use Rattle.interval.specs.declared.fault.Fault.{Fault}
@@ -19,15 +19,17 @@ use Rattle.book.specs.Standing.{Standing}
 use Rattle.book.specs.Windows.{Frame, Firm, Shares, SharesAll, IfAsked, Decides, Tested, TestedX, optional_set}
 use Rattle.book.specs.Verdicts.{Upright, UprightIf, optional_pair}
 use Rattle.book.proofs.Promised.{skips-soundly}
+use Rattle.foreign.specs.declared.question.Question.{Question}
 use Rattle.foreign.specs.declared.raw.RawPair.{RawPair}
 use Rattle.foreign.specs.declared.raw.RawRecord.{RawRecord}
 use Rattle.foreign.specs.declared.raw.RawWindow.{RawWindow}
-use Rattle.foreign.specs.declared.refusals.Misuse.TheVariants.{Length, Record}
+use Rattle.foreign.specs.declared.refusals.Misuse.TheVariants.{Record}
 use Rattle.foreign.specs.declared.refusals.Refusal.{Refusal}
 use Rattle.foreign.specs.declared.refusals.Refusal.TheVariants.{Refused, Misused}
-use Rattle.foreign.specs.Statuses.{Unless, refusal_of}
-use Rattle.foreign.specs.Values.{kept_in, pair_of, usable, usable_pair, asked_if, set_if, wraps}
-use Rattle.foreign.specs.Calls.{Alike, ByteOr, NoneMeets, PageByte, Rules, before, by_fault, byte_of, page_refusal, pairs_refusal, record_refusal, verdict_refusal, verdicts_refusal, window_misuse, x_refusal}
+use Rattle.foreign.specs.Statuses.{Unless}
+use Rattle.foreign.specs.Questions.{Poses, frame_in, wrapping_in}
+use Rattle.foreign.specs.Values.{frame, kept_in, pair_of, usable, usable_pair, asked_if, set_if, wraps}
+use Rattle.foreign.specs.Calls.{Alike, ByteOr, NoneMeets, PageByte, Rules, before, by_fault, byte_of, page_refusal, record_refusal, x_refusal}
 
 -- ---- a window that was handed
 pub set_is : (i : Option Interval) (asks : Bool) (p : RawPair) → optional i ≡ optional_pair (asked_if asks p) → optional_set i ≡ set_if asks p
@@ -147,13 +149,29 @@ module _ (wrapping : Bool) (w : Frame) (h : Pair) (page : RawRecord) (k : Kept) 
   refused-by : (o : Option Refusal) → x_refusal wrapping (told h (kept_in page)).x ≡ o → page_refusal wrapping h page ≡ o
   refused-by o e = ap (λ (q : Option Refusal). before q (x_refusal wrapping (told h (kept_in page)).x)) granted ∙ e
 
-  pub ruled : (v : Verdict) → Firm w → (Upright t → TestedX wrapping w Column t t.x (Ok v)) → (page_refusal wrapping h page ≡ None) × Rules w (told h (kept_in page)) (byte_of v)
+  ruled : (v : Verdict) → Firm w → (Upright t → TestedX wrapping w Column t t.x (Ok v)) → (page_refusal wrapping h page ≡ None) × Rules w (told h (kept_in page)) (byte_of v)
   ruled v firm f =
       let (e, rules) = verdict-rules wrapping w (told h (kept_in page)) (told h (kept_in page)).x refl v firm (judged (Ok v) f) in
       (refused-by None e, rules)
 
-  pub unruled : (e : Fault) → (Upright t → TestedX wrapping w Column t t.x (Err e)) → page_refusal wrapping h page ≡ Some (Refused e)
+  unruled : (e : Fault) → (Upright t → TestedX wrapping w Column t t.x (Err e)) → page_refusal wrapping h page ≡ Some (Refused e)
   unruled e f = refused-by (Some (Refused e)) (verdict-refused wrapping w (told h (kept_in page)) (told h (kept_in page)).x e (judged (Err e) f))
+
+-- the same by a question
+module _ (w : RawWindow) (h : Pair) (q : Question) (poses : Poses w h q) (page : RawRecord) (k : Kept) (t : Told) (granted : record_refusal page ≡ None) (kept-is : k ≡ kept_in page) (told_is : t ≡ told (ends q.hint) k) where
+  hinted : t ≡ told h k
+  hinted = told_is ∙ ap (λ (u : Pair). told u k) poses.0
+
+  of-kind : (r : Result Verdict Fault) → (Upright t → TestedX (wrapping_in q.window) (frame_in q.window) Column t t.x r) → Upright t → TestedX (wraps w) (frame_in q.window) Column t t.x r
+  of-kind r = subst (λ (b : Bool). Upright t → TestedX b (frame_in q.window) Column t t.x r) poses.1.kind
+
+  pub answered : (v : Verdict) → (Upright t → TestedX (wrapping_in q.window) (frame_in q.window) Column t t.x (Ok v)) → (page_refusal (wraps w) h page ≡ None) × Rules (frame w) (told h (kept_in page)) (byte_of v)
+  answered v f =
+      let (e, rules) = ruled (wraps w) (frame_in q.window) h page k t granted kept-is hinted v poses.1.firm (of-kind (Ok v) f) in
+      (e, rules-alike (told h (kept_in page)) (frame_in q.window) (frame w) (byte_of v) poses.1.alike rules)
+
+  pub unanswered : (e : Fault) → (Upright t → TestedX (wrapping_in q.window) (frame_in q.window) Column t t.x (Err e)) → page_refusal (wraps w) h page ≡ Some (Refused e)
+  unanswered e f = unruled (wraps w) (frame_in q.window) h page k t granted kept-is hinted e (of-kind (Err e) f)
 
 -- a page that is skipped holds no run that meets the window: the promise of a book with that one page
 pub skipped_none : (w : Frame) (h : Pair) (r : RawRecord) → Rules w (told h (kept_in r)) 0 → NoneMeets w h r
@@ -177,23 +195,7 @@ byte_zero w t (Some (Misused m)) b h e = absurd (omega arith)
 pub byte_skips : (wrapping : Bool) (w : Frame) (h : Pair) (r : RawRecord) (b : ℕ) → PageByte wrapping w h r b → b ≡ 0 → NoneMeets w h r
 byte_skips wrapping w h r b k e = skipped_none w h r (byte_zero w (told h (kept_in r)) (page_refusal wrapping h r) b k e)
 
--- ---- the kind that was handed
-pub one-kind : (w : RawWindow) (h : Pair) (r : RawRecord) (wrapping : Bool) → wraps w ≡ wrapping → window_misuse w ≡ None → (o : Option Refusal) → before (pairs_refusal wrapping w) (page_refusal wrapping h r) ≡ o → verdict_refusal w h r ≡ o
-one-kind w h r wrapping kind fine o e =
-    ap (λ (q : Option Refusal). before q (before (pairs_refusal (wraps w) w) (page_refusal (wraps w) h r))) fine
-    ∙ ap (λ (b : Bool). before (pairs_refusal b w) (page_refusal b h r)) kind ∙ e
-
-pub all-kind : (w : RawWindow) (n k : ℕ) (wrapping : Bool) → wraps w ≡ wrapping → window_misuse w ≡ None → eqb n k ≡ true → (o : Option Refusal) → pairs_refusal wrapping w ≡ o → verdicts_refusal w n k ≡ o
-all-kind w n k wrapping kind fine long o e =
-    ap (λ (q : Option Refusal). before q (before (cond (eqb n k) None (Some (Misused Length))) (pairs_refusal (wraps w) w))) fine
-    ∙ ap (λ (b : Bool). before (cond b None (Some (Misused Length))) (pairs_refusal (wraps w) w)) long
-    ∙ ap (λ (b : Bool). pairs_refusal b w) kind ∙ e
-
--- ---- what a call returns
-pub finished : (r : Result (Unit {0}) Refusal) (o : Option Refusal) (P Q : Type 0) → MatchResult r (λ _. (o ≡ None) × P) (λ e. (o ≡ Some e) × Q) → (refusal_of r ≡ o) × Unless o P Q
-finished (Ok u) o P Q (e, p) = (sym e, subst (λ (x : Option Refusal). Unless x P Q) (sym e) p)
-finished (Err f) o P Q (e, q) = (sym e, subst (λ (x : Option Refusal). Unless x P Q) (sym e) q)
-
-pub unless_weaker : (o : Option Refusal) (P Q R : Type 0) → (P → R) → Unless o P Q → Unless o R (Unit {0})
-unless_weaker None P Q R f p = f p
-unless_weaker (Some e) P Q R f q = tt
+-- ---- what a call promises where it is granted
+pub granted_gives : (r : Result (Unit {0}) Refusal) (o : Option Refusal) (P Q R : Type 0) → MatchResult r (λ _. (o ≡ None) × P) (λ e. (o ≡ Some e) × Q) → (P → R) → Unless o R (Unit {0})
+granted_gives (Ok u) o P Q R (e, p) f = rw e (f p)
+granted_gives (Err x) o P Q R (e, q) f = rw e tt

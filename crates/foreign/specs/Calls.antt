@@ -10,6 +10,8 @@ use Rattle.bounding.specs.Runs.{Run, runs_of}
 use Rattle.bounding.specs.Record.{record_of}
 use Rattle.bounding.specs.Told.{Told, told}
 use Rattle.bounding.specs.Laws.{HeldShapes}
+use Rattle.bounding.specs.Walk.{kept}
+use Rattle.bounding.specs.declared.records.PageRecord.{PageRecord}
 use Rattle.book.specs.declared.frame.Window.{Window}
 use Rattle.book.specs.declared.states.Verdict.{Verdict}
 use Rattle.book.specs.declared.states.Verdict.TheVariants.{Skip, Keep}
@@ -17,6 +19,7 @@ use Rattle.book.specs.Windows.{Frame, Firm, RunMeets, SharesAll}
 use Rattle.book.specs.Verdicts.{frame_of, window_refusal}
 use Rattle.foreign.specs.declared.raw.RawRecord.{RawRecord}
 use Rattle.foreign.specs.declared.raw.RawWindow.{RawWindow}
+use Rattle.foreign.specs.declared.refusals.Misuse.{Misuse}
 use Rattle.foreign.specs.declared.refusals.Misuse.TheVariants.{Kind, Asked, Length, Record}
 use Rattle.foreign.specs.declared.refusals.Refusal.{Refusal}
 use Rattle.foreign.specs.declared.refusals.Refusal.TheVariants.{Refused, Misused}
@@ -46,6 +49,11 @@ shapes_in (read c cs) = record { code = c; coords = cs } ∷ []
 
 abbrev pub record_refusal : RawRecord → Option Refusal
 record_refusal r = cond (usable (kept_in r)) None (Some (Misused Record))
+
+-- the record that was handed, or why no bounder keeps it
+abbrev pub Takes : RawRecord → Result PageRecord Misuse → Type 0
+Takes r (Ok p) = (record_refusal r ≡ None) × (kept p ≡ kept_in r)
+Takes r (Err m) = record_refusal r ≡ Some (Misused m)
 
 -- r holds the record of any shapes under the hint h; then s holds that of the same and one more
 abbrev pub Grown : Pair → Decoded → RawRecord → RawRecord → Type 0

@@ -13,5 +13,5 @@ returns c =
     let held = c.in_ok-kept.ensures in
     let shape = c.in_ok-shape.ensures in (
       ap (λ (o : Option Refusal). before o (byte_refusal d)) held.0 ∙ shape.0,
-      λ ss e. c.raw_record.ensures ∙ ap raw_record (c.merge.ensures.law h ss (shapes_in d) (held.1 ∙ e) shape.1),
+      λ ss e. c.into.ensures ∙ ap raw_record (c.merge.ensures.law h ss (shapes_in d) (held.1 ∙ e) shape.1),
     )

@@ -11,4 +11,4 @@ unfolding runs_of gather codes_of
 no_shapes h = refl
 
 pub returns : goal.returns
-returns c h = c.raw_record.ensures ∙ ap raw_record (c.empty.ensures ∙ no_shapes h)
+returns c h = c.into.ensures ∙ ap raw_record (c.empty.ensures ∙ no_shapes h)

@@ -3,24 +3,21 @@ use Rattle.std.proofs.Common.{◌≡◌, ℕ, ◌^◌, Bool, true, false, cond, 
 use mathlib.Core.List.{Memᴰ}
 use lib.Ieee.{Float, nan, inf, fin, eq, is_nan, sub, add, neg}
 use Rattle.interval.specs.declared.fault.Fault.{Fault}
-use Rattle.interval.specs.declared.kinds.Interval.{Interval}
-use Rattle.interval.specs.Pairs.{Pair, pair, ends, between, nothing, same, empty, width}
+use Rattle.interval.specs.Pairs.{Pair, pair, ends, nothing, same, empty, width}
 use Rattle.interval.specs.Laws.{Set, Equal, refusal}
 use Rattle.shapes.specs.Source.{Shape}
 use Rattle.bounding.specs.Record.{Kept, record_of}
 use Rattle.bounding.specs.Told.{Told, told}
 use Rattle.bounding.specs.Laws.{together}
-use Rattle.bounding.specs.Walk.{optional}
 use Rattle.book.specs.declared.states.Target.TheVariants.{Page, Column}
 use Rattle.book.specs.declared.states.State.TheVariants.{Idle}
 use Rattle.book.specs.declared.states.Verdict.{Verdict}
 use Rattle.book.specs.declared.states.Verdict.TheVariants.{Skip, Keep}
 use Rattle.book.specs.Standing.{Standing}
-use Rattle.book.specs.Windows.{Frame, Firm, Shares, SharesAll, IfAsked, Decides, Tested, TestedX, optional_set}
-use Rattle.book.specs.Verdicts.{Upright, UprightIf, optional_pair}
+use Rattle.book.specs.Windows.{Frame, Firm, Shares, SharesAll, IfAsked, Decides, Tested, TestedX}
+use Rattle.book.specs.Verdicts.{Upright, UprightIf}
 use Rattle.book.proofs.Promised.{skips-soundly}
 use Rattle.foreign.specs.declared.question.Question.{Question}
-use Rattle.foreign.specs.declared.raw.RawPair.{RawPair}
 use Rattle.foreign.specs.declared.raw.RawRecord.{RawRecord}
 use Rattle.foreign.specs.declared.raw.RawWindow.{RawWindow}
 use Rattle.foreign.specs.declared.refusals.Misuse.TheVariants.{Record}
@@ -28,16 +25,10 @@ use Rattle.foreign.specs.declared.refusals.Refusal.{Refusal}
 use Rattle.foreign.specs.declared.refusals.Refusal.TheVariants.{Refused, Misused}
 use Rattle.foreign.specs.Statuses.{Unless}
 use Rattle.foreign.specs.Questions.{Poses, frame_in, wrapping_in}
-use Rattle.foreign.specs.Values.{frame, kept_in, pair_of, usable, usable_pair, asked_if, set_if, wraps}
+use Rattle.foreign.specs.Values.{frame, kept_in, usable, usable_pair, wraps}
 use Rattle.foreign.specs.Calls.{Alike, ByteOr, NoneMeets, PageByte, Rules, before, by_fault, byte_of, page_refusal, record_refusal, x_refusal}
 
--- ---- a window that was handed
-pub set_is : (i : Option Interval) (asks : Bool) (p : RawPair) → optional i ≡ optional_pair (asked_if asks p) → optional_set i ≡ set_if asks p
-set_is None true p e = let z : ◌≡◌ {A = ℕ} 0 1 = cc in absurd (omega arith)
-set_is None false p e = refl
-set_is (Some i) true p e = let q : ends i ≡ pair_of p = cc in ap (λ (u : Pair). Some (between u)) q
-set_is (Some i) false p e = let z : ◌≡◌ {A = ℕ} 0 1 = cc in absurd (omega arith)
-
+-- ---- windows that cover the same
 -- what shares a value with one of two windows that cover the same shares one with the other
 shares_equal : (o : Option Pair) (s t : Set) → Equal s t → Shares o s → Shares o t
 shares_equal None s t e h = h
@@ -182,11 +173,6 @@ skipped_none w h r (inl (e, apart)) ss held is q m meets =
     skips-soundly h one (λ s i. held s (subst (λ (l : List Shape). Memᴰ s l) (append-nil ss) i)) w (Page 0) (told h (record_of h ss)) refl (subst (λ (k : Kept). SharesAll (told h k) w → ⊥) is apart) q m meets
 
 -- ---- the byte of a page
-pub byte_alike : (t : Told) (v w : Frame) (o : Option Refusal) (b : ℕ) → Alike v w → ByteOr o (Rules v t b) b → ByteOr o (Rules w t b) b
-byte_alike t v w None b a h = rules-alike t v w b a h
-byte_alike t v w (Some (Refused f)) b a h = h
-byte_alike t v w (Some (Misused m)) b a h = h
-
 byte_zero : (w : Frame) (t : Told) (o : Option Refusal) (b : ℕ) → ByteOr o (Rules w t b) b → b ≡ 0 → Rules w t 0
 byte_zero w t None b h e = subst (Rules w t) e h
 byte_zero w t (Some (Refused f)) b h e = absurd (omega arith)

@@ -23,6 +23,7 @@ pub(crate) struct Question {
     pub(crate) window: EitherWindow,
 }
 
+// The number that the C interface gives a verdict.
 fn byte_of(verdict: Verdict) -> u8
     ensures { result ≡ byte_of verdict }
 {

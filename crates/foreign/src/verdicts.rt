@@ -55,6 +55,7 @@ fn rule_pages(
         return Err(Misuse::Length.into());
     }
     let question = Question::new(asked, *hint)?;
+    // By an index: of what is written through a `zip` no proof knows the values.
     for (i, page) in pages.iter().enumerate() {
         verdicts[i] = question.byte(page);
     }

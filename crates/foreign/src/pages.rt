@@ -26,7 +26,8 @@ pub extern "C" fn pagebounds_tell(page: &RawRecord, hint: &RawPair, told: &mut R
 {
     match PageRecord::try_from(page) {
         Ok(kept) => {
-            *told = kept.tell(&(*hint).into()).into();
+            let hint = (*hint).into();
+            *told = kept.tell(&hint).into();
             0
         }
         Err(misuse) => misuse as i32,

@@ -19,8 +19,8 @@ use interval::{Fault, Interval};
 // What is asked of pages: a window, under the hint that they were filled under.
 #[derive(Drop)]
 pub(crate) struct Question {
-    pub(crate) hint: Interval,
-    pub(crate) window: EitherWindow,
+    hint: Interval,
+    window: EitherWindow,
 }
 
 // The number that the C interface gives a verdict.

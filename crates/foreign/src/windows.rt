@@ -23,11 +23,11 @@ pub(crate) enum WindowKind {
 // What a window asks: its pairs, of z and m only where they are asked for.
 #[derive(Clone, Copy)]
 pub(crate) struct Asked {
-    pub(crate) kind: WindowKind,
-    pub(crate) x: Ends,
-    pub(crate) y: Ends,
-    pub(crate) z: Option<Ends>,
-    pub(crate) m: Option<Ends>,
+    kind: WindowKind,
+    x: Ends,
+    y: Ends,
+    z: Option<Ends>,
+    m: Option<Ends>,
 }
 
 // A window with bounds of either kind for x.

@@ -31,12 +31,13 @@ use Rattle.foreign.specs.Values.{frame, kept_in, usable, usable_pair, wraps}
 use Rattle.foreign.specs.Calls.{Alike, ByteOr, NoneMeets, PageByte, Rules, by_fault, byte_of, page_refusal, record_refusal, x_refusal}
 
 -- ---- windows that cover the same
+
 -- what shares a value with one of two windows that cover the same shares one with the other
 shares_equal : (o : Option Pair) (s t : Set) → Equal s t → Shares o s → Shares o t
 shares_equal None s t e h = h
 shares_equal (Some p) s t e (v, V, a, b) = (v, V, a, subst T (e v V) b)
 
-pub shares_alike : (t : Told) (v w : Frame) → Alike v w → SharesAll t v → SharesAll t w
+shares_alike : (t : Told) (v w : Frame) → Alike v w → SharesAll t v → SharesAll t w
 shares_alike t v w a h =
     record {
       x = shares_equal t.x v.x w.x a.x h.x;
@@ -45,10 +46,10 @@ shares_alike t v w a h =
       m = subst (IfAsked (Shares t.m)) a.m h.m;
     }
 
-pub shares_back : (t : Told) (v w : Frame) → Alike v w → SharesAll t w → SharesAll t v
+shares_back : (t : Told) (v w : Frame) → Alike v w → SharesAll t w → SharesAll t v
 shares_back t v w a h = shares_alike t w v (record { x = λ u U. sym (a.x u U); y = sym a.y; z = sym a.z; m = sym a.m }) h
 
-pub rules-alike : (t : Told) (v w : Frame) (b : ℕ) → Alike v w → Rules v t b → Rules w t b
+rules-alike : (t : Told) (v w : Frame) (b : ℕ) → Alike v w → Rules v t b → Rules w t b
 rules-alike t v w b a (inl (e, apart)) = inl (e, λ h. apart (shares_back t v w a h))
 rules-alike t v w b a (inr (e, h)) = inr (e, shares_alike t v w a h)
 
@@ -129,12 +130,13 @@ judged w h q (hinted, is) page k t granted kept-is told_is r f =
 -- a page that is skipped holds no run that meets the window: the promise of a book with that one page
 pub skipped_none : (w : Frame) (h : Pair) (r : RawRecord) → Rules w (told h (kept_in r)) 0 → NoneMeets w h r
 unfolding together
-skipped_none w h r (inr (e, k)) ss held is q m meets = let z : ◌≡◌ {A = ℕ} 0 1 = cc in absurd (omega arith)
+skipped_none w h r (inr (e, k)) ss held is q m meets = absurd (omega arith)
 skipped_none w h r (inl (e, apart)) ss held is q m meets =
     let one : Standing = record { pages = ss ∷ []; state = Idle; current = [] } in
     skips-soundly h one (λ s i. held s (subst (λ (l : List Shape). Memᴰ s l) (append-nil ss) i)) w (Page 0) (told h (record_of h ss)) refl (subst (λ (k : Kept). SharesAll (told h k) w → ⊥) is apart) q m meets
 
 -- ---- the byte of a page
+
 byte_zero : (w : Frame) (t : Told) (o : Option Refusal) (b : ℕ) → ByteOr o (Rules w t b) b → b ≡ 0 → Rules w t 0
 byte_zero w t None b h e = subst (Rules w t) e h
 byte_zero w t (Some (Refused f)) b h e = absurd (omega arith)
@@ -144,6 +146,7 @@ pub byte_skips : (wrapping : Bool) (w : Frame) (h : Pair) (r : RawRecord) (b : �
 byte_skips wrapping w h r b k e = skipped_none w h r (byte_zero w (told h (kept_in r)) (page_refusal wrapping h r) b k e)
 
 -- ---- what a call promises where it is granted
+
 pub granted_gives : (r : Result (Unit {0}) Refusal) (o : Option Refusal) (P Q R : Type 0) → MatchResult r (λ _. (o ≡ None) × P) (λ e. (o ≡ Some e) × Q) → (P → R) → Unless o R (Unit {0})
 granted_gives (Ok u) o P Q R (e, p) f = rw e (f p)
 granted_gives (Err x) o P Q R (e, q) f = rw e tt

@@ -17,13 +17,14 @@ use bounding::PageRecord;
 use interval::{Fault, Interval};
 
 // What is asked of pages: a window, under the hint that they were filled under.
+// That it `Poses` a window that was handed is no ghost field, since it does not hold that window.
 #[derive(Drop)]
 pub(crate) struct Question {
     hint: Interval,
     window: EitherWindow,
 }
 
-// The number that the C interface gives a verdict.
+// The number that the C interface gives a verdict; no `From`, since both types are of other crates.
 fn byte_of(verdict: Verdict) -> u8
     ensures { result ≡ byte_of verdict }
 {

@@ -63,6 +63,7 @@ fn rule_pages(
 }
 
 // The verdicts of a window on a list of pages, a byte for each: 0 skip, 1 keep, 2 where the kind cannot take the page's x pair, 3 where no bounder keeps such a record.
+// C hands pages and bytes as two arrays.
 #[unsafe(no_mangle)]
 pub extern "C" fn pagebounds_verdicts(
     pages: &[RawRecord],

@@ -1,7 +1,7 @@
 -- The statuses that the exported calls return, and what they write into the fault.
 use Rattle.std.specs.Prelude.{◌≡◌, ℤ, pos, negsuc, Some, None, Ok, Err, Option, Result}
 use Rattle.interval.specs.declared.fault.Fault.{Fault}
-use Rattle.interval.specs.Faults.{number, layer}
+use Rattle.interval.specs.Faults.{number, layer, layer_number}
 use Rattle.foreign.specs.declared.raw.RawFault.{RawFault}
 use Rattle.foreign.specs.declared.refusals.Misuse.{Misuse}
 use Rattle.foreign.specs.declared.refusals.Misuse.TheVariants.{Kind, Asked, Length, Record}
@@ -16,7 +16,7 @@ misuse Length = negsuc 2
 misuse Record = negsuc 3
 
 abbrev pub fault_of : Fault → RawFault
-fault_of f = record { number = number f.cause; layer = layer f.cause; place = f.place }
+fault_of f = record { number = number f.cause; layer = layer_number (layer f.cause); place = f.place }
 
 -- what a call returns, given why it was refused, if it was
 abbrev pub status_of : Refusal → ℤ

@@ -48,7 +48,7 @@ impl From<Refusal> for i32 {
 
     fn from(refusal: Refusal) -> i32 {
         match refusal {
-            Refusal::Refused(f) => f.cause.number() as i32,
+            Refusal::Refused(f) => i32::from(u8::from(f.cause)),
             Refusal::Misused(m) => m as i32,
         }
     }
@@ -60,8 +60,8 @@ impl From<Fault> for RawFault {
 
     fn from(fault: Fault) -> RawFault {
         RawFault {
-            number: fault.cause.number().into(),
-            layer: fault.cause.layer().into(),
+            number: u8::from(fault.cause).into(),
+            layer: u8::from(fault.cause.layer()).into(),
             place: fault.place,
         }
     }

@@ -3,24 +3,26 @@ use Rattle.std.specs.Prelude.{◌≡◌, ℕ, ◌<◌, Bool, cond, ◌⊎◌, Li
 use mathlib.Core.List.{Memᴰ}
 use Rattle.interval.specs.declared.fault.Fault.{Fault}
 use Rattle.interval.specs.Pairs.{Pair}
-use Rattle.interval.specs.Laws.{Set, Equal, refusal}
+use Rattle.interval.specs.Laws.{Equal, refusal}
 use Rattle.shapes.specs.Source.{Shape}
 use Rattle.shapes.specs.Wkb.{Decoded, refused, read}
 use Rattle.bounding.specs.Runs.{Run, runs_of}
 use Rattle.bounding.specs.Record.{record_of}
 use Rattle.bounding.specs.Told.{Told, told}
 use Rattle.bounding.specs.Laws.{HeldShapes}
-use Rattle.book.specs.declared.frame.Window.{Window}
+use Rattle.bounding.specs.Walk.{kept}
+use Rattle.bounding.specs.declared.records.PageRecord.{PageRecord}
 use Rattle.book.specs.declared.states.Verdict.{Verdict}
 use Rattle.book.specs.declared.states.Verdict.TheVariants.{Skip, Keep}
-use Rattle.book.specs.Windows.{Frame, Firm, RunMeets, SharesAll}
-use Rattle.book.specs.Verdicts.{frame_of, window_refusal}
+use Rattle.book.specs.Windows.{Frame, RunMeets, SharesAll}
+use Rattle.book.specs.Verdicts.{window_refusal}
 use Rattle.foreign.specs.declared.raw.RawRecord.{RawRecord}
 use Rattle.foreign.specs.declared.raw.RawWindow.{RawWindow}
+use Rattle.foreign.specs.declared.refusals.Misuse.{Misuse}
 use Rattle.foreign.specs.declared.refusals.Misuse.TheVariants.{Kind, Asked, Length, Record}
 use Rattle.foreign.specs.declared.refusals.Refusal.{Refusal}
 use Rattle.foreign.specs.declared.refusals.Refusal.TheVariants.{Refused, Misused}
-use Rattle.foreign.specs.Values.{kept_in, raw_record, usable, wraps, asks_z, asks_m, asked_if, frame}
+use Rattle.foreign.specs.Values.{kept_in, raw_record, usable, wraps, asks_z, asks_m, asked_if}
 
 -- the first of two refusals that applies
 abbrev pub before : Option Refusal → Option Refusal → Option Refusal
@@ -46,6 +48,11 @@ shapes_in (read c cs) = record { code = c; coords = cs } ∷ []
 
 abbrev pub record_refusal : RawRecord → Option Refusal
 record_refusal r = cond (usable (kept_in r)) None (Some (Misused Record))
+
+-- the record that was handed, or why no bounder keeps it
+abbrev pub Takes : RawRecord → Result PageRecord Misuse → Type 0
+Takes r (Ok p) = (record_refusal r ≡ None) × (kept p ≡ kept_in r)
+Takes r (Err m) = record_refusal r ≡ Some (Misused m)
 
 -- r holds the record of any shapes under the hint h; then s holds that of the same and one more
 abbrev pub Grown : Pair → Decoded → RawRecord → RawRecord → Type 0
@@ -103,11 +110,6 @@ pub record Alike (v w : Frame) : Type 0 where
   pub y : v.y ≡ w.y
   pub z : v.z ≡ w.z
   pub m : v.m ≡ w.m
-
--- a window that is made of the pairs, or why it is not
-abbrev pub Opens : {K : Type 0} → Bool → (K → Set) → RawWindow → Result (Window K) Refusal → Type 0
-Opens wrapping covers w (Ok v) = (pairs_refusal wrapping w ≡ None) × Firm (frame_of covers v) × Alike (frame_of covers v) (frame w)
-Opens wrapping covers w (Err e) = pairs_refusal wrapping w ≡ Some e
 
 -- no run of shapes that r is the record of meets the window
 abbrev pub NoneMeets : Frame → Pair → RawRecord → Type 0

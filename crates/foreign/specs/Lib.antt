@@ -1,3 +1,4 @@
 pub mod Statuses
 pub mod Values
 pub mod Calls
+pub mod Questions

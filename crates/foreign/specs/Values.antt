@@ -1,5 +1,5 @@
 -- The plain structs as the library's definitions have them.
-use Rattle.std.specs.Prelude.{◌%◌, ◌^◌, Bool, true, false, cond, ◌&&◌, ◌||◌, Some, None, Option, ◌==◌, nat_le, nat_lt, Float}
+use Rattle.std.specs.Prelude.{◌%◌, ◌^◌, Bool, cond, ◌&&◌, ◌||◌, Some, None, Option, is_some, ◌==◌, nat_le, nat_lt, Float}
 use Rattle.std.specs.Float.Ieee.{le}
 use Rattle.interval.specs.Pairs.{Pair, pair, between, stored, nothing, same}
 use Rattle.interval.specs.Laws.{Set}
@@ -47,10 +47,6 @@ abbrev pub shown : Option Pair → RawPair
 shown None = raw_pair nothing
 shown (Some e) = raw_pair e
 
-abbrev pub has : Option Pair → Bool
-has None = false
-has (Some e) = true
-
 abbrev pub raw_bounds : Told → RawBounds
 raw_bounds t =
     record {
@@ -58,10 +54,10 @@ raw_bounds t =
       y = shown t.y;
       z = shown t.z;
       m = shown t.m;
-      has_x = has t.x;
-      has_y = has t.y;
-      has_z = has t.z;
-      has_m = has t.m;
+      has_x = is_some t.x;
+      has_y = is_some t.y;
+      has_z = is_some t.z;
+      has_m = is_some t.m;
       codes = t.codes;
     }
 

@@ -9,7 +9,6 @@ ghost use Rattle.foreign.specs.Calls.{Grown, before, byte_refusal, record_refusa
 ghost use Rattle.foreign.specs.Statuses.{Answers, Unless};
 ghost use Rattle.foreign.specs.Values.{kept_in, pair_of, raw_bounds, raw_record};
 
-use crate::convert::{bounds, raw_bounds, raw_record, taken};
 use crate::raw::{RawBounds, RawFault, RawPair, RawRecord};
 use crate::refusals::{Refusal, status};
 use bounding::{GeometryBounder, PageRecord};
@@ -18,10 +17,8 @@ use interval::Interval;
 fn checked(bytes: &[u8]) -> Result<(), Refusal>
     ensures { MatchResult result (λ _. byte_refusal (decode bytes.now) ≡ None) (λ e. byte_refusal (decode bytes.now) ≡ Some e) }
 {
-    match shapes::check(bytes) {
-        Ok(_) => Ok(()),
-        Err(f) => Err(Refusal::Refused(f)),
-    }
+    shapes::check(bytes)?;
+    Ok(())
 }
 
 // The record of the shape that the bytes hold.
@@ -29,10 +26,8 @@ fn recorded(bytes: &[u8], hint: Interval) -> Result<PageRecord, Refusal>
     ensures { MatchResult result (λ p. (byte_refusal (decode bytes.now) ≡ None) × (kept p ≡ record_of (ends hint) (shapes_in (decode bytes.now)))) (λ e. byte_refusal (decode bytes.now) ≡ Some e) }
 {
     let mut bounder = GeometryBounder::empty().with_wraparound_hint(hint).start();
-    match bounder.update_wkb(bytes) {
-        Ok(()) => Ok(bounder.record()),
-        Err(f) => Err(Refusal::Refused(f)),
-    }
+    bounder.update_wkb(bytes)?;
+    Ok(bounder.record())
 }
 
 // Whether the bytes hold one whole shape.
@@ -52,8 +47,8 @@ fn measured(
     ensures { MatchResult result (λ _. (byte_refusal (decode bytes.now) ≡ None) × (page.new ≡ raw_record (record_of (ends hint) (shapes_in (decode bytes.now)))) × (told.new ≡ raw_bounds (Told.told (ends hint) (record_of (ends hint) (shapes_in (decode bytes.now)))))) (λ e. (byte_refusal (decode bytes.now) ≡ Some e) × (page.new ≡ page.old) × (told.new ≡ told.old)) }
 {
     let kept = recorded(bytes, hint)?;
-    *page = raw_record(&kept);
-    *told = raw_bounds(&kept.tell(&hint));
+    *page = kept.into();
+    *told = kept.tell(&hint).into();
     Ok(())
 }
 
@@ -70,16 +65,16 @@ pub extern "C" fn pagebounds_bounds(
     ensures page { Unless (byte_refusal (decode bytes.now)) (page.new ≡ raw_record (record_of (pair_of hint.now) (shapes_in (decode bytes.now)))) (page.new ≡ page.old) }
     ensures told { Unless (byte_refusal (decode bytes.now)) (told.new ≡ raw_bounds (Told.told (pair_of hint.now) (record_of (pair_of hint.now) (shapes_in (decode bytes.now))))) (told.new ≡ told.old) }
 {
-    let done = measured(bytes, bounds(hint), told, page);
+    let done = measured(bytes, (*hint).into(), told, page);
     status(done, fault)
 }
 
 fn added(page: &mut RawRecord, bytes: &[u8], hint: Interval) -> Result<(), Refusal>
     ensures { MatchResult result (λ _. (before (record_refusal page.old) (byte_refusal (decode bytes.now)) ≡ None) × Grown (ends hint) (decode bytes.now) page.old page.new) (λ e. (before (record_refusal page.old) (byte_refusal (decode bytes.now)) ≡ Some e) × (page.new ≡ page.old)) }
 {
-    let kept = taken(page)?;
+    let kept = PageRecord::try_from(&*page)?;
     let shape = recorded(bytes, hint)?;
-    *page = raw_record(&kept.merge(&shape));
+    *page = kept.merge(&shape).into();
     Ok(())
 }
 
@@ -94,6 +89,6 @@ pub extern "C" fn pagebounds_add(
     ensures answers { Answers (before (record_refusal page.old) (byte_refusal (decode bytes.now))) fault.old result fault.new }
     ensures page { Unless (before (record_refusal page.old) (byte_refusal (decode bytes.now))) (Grown (pair_of hint.now) (decode bytes.now) page.old page.new) (page.new ≡ page.old) }
 {
-    let done = added(page, bytes, bounds(hint));
+    let done = added(page, bytes, (*hint).into());
     status(done, fault)
 }

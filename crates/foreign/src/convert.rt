@@ -1,59 +1,51 @@
 // Between the plain structs and the library's own values.
 ghost use Rattle.std.specs.Prelude.{◌≡◌, Some, None, MatchResult};
 ghost use Rattle.interval.specs.Pairs.{ends};
-ghost use Rattle.bounding.specs.Walk.{answer, kept, optional, optional_inner};
-ghost use Rattle.foreign.specs.Calls.{record_refusal};
+ghost use Rattle.bounding.specs.Walk.{answer, kept, optional};
+ghost use Rattle.foreign.specs.Calls.{Takes};
 ghost use Rattle.foreign.specs.Values as Values;
 
 use crate::raw::{RawBounds, RawPair, RawRecord};
-use crate::refusals::{Misuse, Refusal};
+use crate::refusals::Misuse;
 use bounding::{Answer, CodeSet, PageRecord};
-use interval::{Interval, IntervalTrait, WraparoundInterval};
+use interval::{Interval, IntervalTrait};
 
 // So many codes have a bit.
-const CODES: u32 = 268435456;
+const CODES: u32 = 1 << 28;
 
 // Ordinary bounds with these ends.
-pub(crate) fn bounds(pair: &RawPair) -> Interval
-    ensures { ends result ≡ Values.pair_of pair.now }
-{
-    <Interval as IntervalTrait>::new(pair.lo, pair.hi)
-}
+impl From<RawPair> for Interval {
+    ghost from_gives = { λ p i. ends i ≡ Values.pair_of p };
 
-fn raw_pair(bounds: &Interval) -> RawPair
-    ensures { result ≡ Values.raw_pair (ends bounds.now) }
-{
-    RawPair {
-        lo: bounds.lo,
-        hi: bounds.hi,
+    fn from(pair: RawPair) -> Interval {
+        Interval::new(pair.lo, pair.hi)
     }
 }
 
-fn page_record(raw: &RawRecord) -> PageRecord
-    ensures { kept result ≡ Values.kept_in raw.now }
-{
-    PageRecord {
-        x_left: bounds(&raw.x_left),
-        x_mid: bounds(&raw.x_mid),
-        x_right: bounds(&raw.x_right),
-        y: bounds(&raw.y),
-        z: bounds(&raw.z),
-        m: bounds(&raw.m),
-        codes: CodeSet { bits: raw.codes },
+impl From<Interval> for RawPair {
+    ghost from_gives = { λ i p. p ≡ Values.raw_pair (ends i) };
+
+    fn from(bounds: Interval) -> RawPair {
+        RawPair {
+            lo: bounds.lo,
+            hi: bounds.hi,
+        }
     }
 }
 
-pub(crate) fn raw_record(page: &PageRecord) -> RawRecord
-    ensures { result ≡ Values.raw_record (kept page.now) }
-{
-    RawRecord {
-        x_left: raw_pair(&page.x_left),
-        x_mid: raw_pair(&page.x_mid),
-        x_right: raw_pair(&page.x_right),
-        y: raw_pair(&page.y),
-        z: raw_pair(&page.z),
-        m: raw_pair(&page.m),
-        codes: page.codes.bits,
+impl From<PageRecord> for RawRecord {
+    ghost from_gives = { λ r p. p ≡ Values.raw_record (kept r) };
+
+    fn from(page: PageRecord) -> RawRecord {
+        RawRecord {
+            x_left: page.x_left.into(),
+            x_mid: page.x_mid.into(),
+            x_right: page.x_right.into(),
+            y: page.y.into(),
+            z: page.z.into(),
+            m: page.m.into(),
+            codes: page.codes.bits,
+        }
     }
 }
 
@@ -61,45 +53,25 @@ pub(crate) fn raw_record(page: &PageRecord) -> RawRecord
 fn shown(told: Option<Interval>) -> RawPair
     ensures { result ≡ Values.shown (optional told) }
 {
-    match told {
-        Some(bounds) => raw_pair(&bounds),
-        None => raw_pair(&<Interval as IntervalTrait>::empty()),
-    }
+    told.unwrap_or(Interval::empty()).into()
 }
 
-// The ordinary pair in what is told of x.
-fn inner(told: Option<WraparoundInterval>) -> Option<Interval>
-    ensures { optional result ≡ optional_inner told }
-{
-    match told {
-        Some(w) => Some(w.inner),
-        None => None,
-    }
-}
+impl From<Answer> for RawBounds {
+    ghost from_gives = { λ a r. r ≡ Values.raw_bounds (answer a) };
 
-fn has(told: Option<Interval>) -> bool
-    ensures { result ≡ Values.has (optional told) }
-{
-    match told {
-        Some(_) => true,
-        None => false,
-    }
-}
-
-pub(crate) fn raw_bounds(told: &Answer) -> RawBounds
-    ensures { result ≡ Values.raw_bounds (answer told.now) }
-{
-    let x = inner(told.x);
-    RawBounds {
-        x: shown(x),
-        y: shown(told.y),
-        z: shown(told.z),
-        m: shown(told.m),
-        has_x: has(x),
-        has_y: has(told.y),
-        has_z: has(told.z),
-        has_m: has(told.m),
-        codes: told.codes.bits,
+    fn from(told: Answer) -> RawBounds {
+        let x = told.x.map(|bounds| bounds.inner);
+        RawBounds {
+            x: shown(x),
+            y: shown(told.y),
+            z: shown(told.z),
+            m: shown(told.m),
+            has_x: x.is_some(),
+            has_y: told.y.is_some(),
+            has_z: told.z.is_some(),
+            has_m: told.m.is_some(),
+            codes: told.codes.bits,
+        }
     }
 }
 
@@ -107,7 +79,7 @@ pub(crate) fn raw_bounds(told: &Answer) -> RawBounds
 fn usable_bounds(bounds: &Interval) -> bool
     ensures { result ≡ Values.usable_pair (ends bounds.now) }
 {
-    (bounds.lo <= bounds.hi) | bounds.same(&<Interval as IntervalTrait>::empty())
+    (bounds.lo <= bounds.hi) | bounds.same(&Interval::empty())
 }
 
 fn usable(page: &PageRecord) -> bool
@@ -123,13 +95,25 @@ fn usable(page: &PageRecord) -> bool
 }
 
 // The record that was handed, if a bounder can keep it.
-pub(crate) fn taken(raw: &RawRecord) -> Result<PageRecord, Refusal>
-    ensures { MatchResult result (λ p. (record_refusal raw.now ≡ None) × (kept p ≡ Values.kept_in raw.now)) (λ e. record_refusal raw.now ≡ Some e) }
-{
-    let held = page_record(raw);
-    if usable(&held) {
-        Ok(held)
-    } else {
-        Err(Refusal::Misused(Misuse::Record))
+impl TryFrom<&RawRecord> for PageRecord {
+    type Error = Misuse;
+
+    ghost try_from_gives = { λ r p. Takes r.now p };
+
+    fn try_from(raw: &RawRecord) -> Result<PageRecord, Misuse> {
+        let held = PageRecord {
+            x_left: raw.x_left.into(),
+            x_mid: raw.x_mid.into(),
+            x_right: raw.x_right.into(),
+            y: raw.y.into(),
+            z: raw.z.into(),
+            m: raw.m.into(),
+            codes: CodeSet { bits: raw.codes },
+        };
+        if usable(&held) {
+            Ok(held)
+        } else {
+            Err(Misuse::Record)
+        }
     }
 }

@@ -4,9 +4,11 @@
 mod bytes;
 mod convert;
 mod pages;
+mod question;
 mod raw;
 mod refusals;
 mod verdicts;
+mod windows;
 
 pub use bytes::{pagebounds_add, pagebounds_bounds, pagebounds_check};
 pub use pages::{pagebounds_empty, pagebounds_tell};

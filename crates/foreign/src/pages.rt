@@ -7,7 +7,6 @@ ghost use Rattle.foreign.specs.Calls.{record_refusal};
 ghost use Rattle.foreign.specs.Statuses.{Unless, returned};
 ghost use Rattle.foreign.specs.Values.{kept_in, pair_of, raw_bounds, raw_record};
 
-use crate::convert::{bounds, raw_bounds, raw_record, taken};
 use crate::raw::{RawBounds, RawPair, RawRecord};
 use bounding::PageRecord;
 
@@ -16,7 +15,7 @@ use bounding::PageRecord;
 pub extern "C" fn pagebounds_empty(page: &mut RawRecord)
     ensures { (h : Pair) → page.new ≡ raw_record (record_of h []) }
 {
-    *page = raw_record(&PageRecord::empty());
+    *page = PageRecord::empty().into();
 }
 
 // What is told of a record under the hint.
@@ -25,11 +24,12 @@ pub extern "C" fn pagebounds_tell(page: &RawRecord, hint: &RawPair, told: &mut R
     ensures status { result ≡ returned (record_refusal page.now) }
     ensures told { Unless (record_refusal page.now) (told.new ≡ raw_bounds (Told.told (pair_of hint.now) (kept_in page.now))) (told.new ≡ told.old) }
 {
-    match taken(page) {
+    match PageRecord::try_from(page) {
         Ok(kept) => {
-            *told = raw_bounds(&kept.tell(&bounds(hint)));
+            let hint = (*hint).into();
+            *told = kept.tell(&hint).into();
             0
         }
-        Err(e) => e.status(),
+        Err(misuse) => misuse as i32,
     }
 }

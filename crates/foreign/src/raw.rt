@@ -21,7 +21,7 @@ pub struct RawRecord {
     pub codes: u32,
 }
 
-// What is told of a record. An axis without values has the empty pair.
+// What is told of a record. C has no `Option`: a flag stands for each axis, and one without values has the empty pair.
 #[repr(C)]
 #[derive(Clone, Copy)]
 pub struct RawBounds {
@@ -37,6 +37,7 @@ pub struct RawBounds {
 }
 
 // A window's pairs. `kind` is 0 for ordinary bounds of x and 1 for bounds that may wrap; `asked` is 1 where z is asked for, plus 2 where m is.
+// C's enums hold any number, so both are numbers here, and `Asked` is made of them.
 #[repr(C)]
 #[derive(Clone, Copy)]
 pub struct RawWindow {

@@ -2,62 +2,68 @@
 ghost use Rattle.std.specs.Prelude.{◌≡◌};
 ghost use Rattle.foreign.specs.Statuses as Statuses;
 ghost use Rattle.foreign.specs.Statuses.{Answers, refusal_of};
+ghost use Rattle.foreign.specs.declared.refusals.Refusal.TheVariants.{Refused, Misused};
 
 use crate::raw::RawFault;
 use interval::Fault;
 
-// What was handed and can mean nothing.
-#[derive(Clone, Copy)]
+// What was handed and can mean nothing, with its status: below 0, so that it is no refusal's number.
+#[derive(Clone, Copy, Debug, PartialEq, Eq)]
 pub enum Misuse {
     // a window's kind is neither 0 nor 1
-    Kind,
+    Kind = -1,
     // a window's axes asked for are above 3
-    Asked,
+    Asked = -2,
     // there are not as many verdicts as records
-    Length,
+    Length = -3,
     // a record that no bounder keeps
-    Record,
+    Record = -4,
 }
 
-#[derive(Clone, Copy)]
+#[derive(Clone, Copy, Debug, PartialEq, Eq)]
 pub enum Refusal {
     Refused(Fault),
     Misused(Misuse),
 }
 
-impl Misuse {
-    // Below 0, so that it is no refusal's number.
-    fn status(self) -> i32
-        ensures { result ≡ Statuses.misuse self }
-    {
-        match self {
-            Misuse::Kind => -1,
-            Misuse::Asked => -2,
-            Misuse::Length => -3,
-            Misuse::Record => -4,
-        }
+impl From<Fault> for Refusal {
+    ghost from_gives = { λ f e. e ≡ Refused f };
+
+    fn from(fault: Fault) -> Refusal {
+        Refusal::Refused(fault)
     }
 }
 
-impl Refusal {
-    pub(crate) fn status(self) -> i32
-        ensures { result ≡ Statuses.status_of self }
-    {
-        match self {
+impl From<Misuse> for Refusal {
+    ghost from_gives = { λ m e. e ≡ Misused m };
+
+    fn from(misuse: Misuse) -> Refusal {
+        Refusal::Misused(misuse)
+    }
+}
+
+// The status that says why.
+impl From<Refusal> for i32 {
+    ghost from_gives = { λ e status. status ≡ Statuses.status_of e };
+
+    fn from(refusal: Refusal) -> i32 {
+        match refusal {
             Refusal::Refused(f) => i32::from(u8::from(f.cause)),
-            Refusal::Misused(m) => m.status(),
+            Refusal::Misused(m) => m as i32,
         }
     }
 }
 
 // The fault as C reads it.
-fn raw_fault(fault: Fault) -> RawFault
-    ensures { result ≡ Statuses.fault_of fault }
-{
-    RawFault {
-        number: u32::from(u8::from(fault.cause)),
-        layer: u32::from(u8::from(fault.cause.layer())),
-        place: fault.place,
+impl From<Fault> for RawFault {
+    ghost from_gives = { λ f r. r ≡ Statuses.fault_of f };
+
+    fn from(fault: Fault) -> RawFault {
+        RawFault {
+            number: u8::from(fault.cause).into(),
+            layer: u8::from(fault.cause.layer()).into(),
+            place: fault.place,
+        }
     }
 }
 
@@ -67,10 +73,11 @@ pub(crate) fn status(answer: Result<(), Refusal>, fault: &mut RawFault) -> i32
 {
     match answer {
         Ok(()) => 0,
-        Err(Refusal::Refused(f)) => {
-            *fault = raw_fault(f);
-            Refusal::Refused(f).status()
+        Err(refusal) => {
+            if let Refusal::Refused(f) = refusal {
+                *fault = f.into();
+            }
+            refusal.into()
         }
-        Err(e) => e.status(),
     }
 }

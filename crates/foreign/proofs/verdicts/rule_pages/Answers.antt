@@ -1,27 +1,29 @@
-use Rattle.std.proofs.Common.{◌≡◌, Bool, true, false, eqb, length, Some, None, sym, subst, arith, eq-eqb, ne_eqb}
-use Rattle.std.proofs.lemmas.Result.{MatchResult-weaker}
-use Rattle.interval.specs.Pairs.{ends}
-use Rattle.foreign.specs.Calls.{PageBytes}
-use Rattle.foreign.specs.Values.{frame}
-use Rattle.foreign.proofs.Judging.{all-kind}
+use Rattle.std.proofs.Common.{◌≡◌, ℕ, ◌<◌, ◌≢◌, true, eqb, length, get_or, set, subst, arith, refl, eq-eqb, get_or-set_other, get_or-set_same, below_more}
+use Rattle.std.proofs.lemmas.List.{get_or_default}
+use Rattle.foreign.specs.Calls.{PageByte}
+use Rattle.foreign.specs.Values.{frame, pair_of, wraps}
+use Rattle.foreign.specs.declared.raw.RawRecord.{RawRecord}
 use Rattle.foreign.proofs.verdicts.rule_pages.Goals as goal
 
-pub returns-then-window-eq1 : goal.returns-then-window-eq1
-returns-then-window-eq1 c =
+pub loop-i-preserved : goal.loop-i-preserved
+loop-i-preserved c k d =
     let w = c.args.window.now in
+    let h = pair_of c.args.hint.now in
     let rs = c.args.pages.now in
-    let h = ends c.args.hint.now in
-    let kind = eq-eqb w.kind 1 c.if-window-eq1.true in
-    let long : eqb (length rs) (length c.args.verdicts.now) ≡ true = eq-eqb _ _ (omega arith) in
-    let same = all-kind w (length rs) (length c.args.verdicts.now) true kind c.in_ok-sensible.ensures long in
-    MatchResult-weaker c.rule_all.result c.rule_all.ensures (λ u p. (same None p.0, subst (λ (b : Bool). PageBytes b (frame w) h rs c.rule_all.new.verdicts) (sym kind) p.1)) (λ e p. (same (Some e) p.0, p.1))
+    let i = c.loop-i.i in
+    let b = c.byte.result in
+    let new = set c.loop-i.verdicts i b in
+    let lt : i < length rs = omega arith in
+    let long : i < length c.loop-i.verdicts = omega arith in
+    let (pairs, poses) = c.in_ok-question.ensures w c.in_ok-asked.ensures.1 in
+    below_more (λ (j : ℕ). PageByte (wraps w) (frame w) h (get_or rs j d) (get_or new j 0)) i
+    (λ j less. let ne : j ≢ i = omega arith in rw get_or-set_other (c.loop-i.invariant j d less))
+    (rw get_or-set_same (subst (λ (r : RawRecord). PageByte (wraps w) (frame w) h r b) (get_or_default rs i _ d lt) (c.byte.ensures w h poses)))
+    k
 
-pub returns-else-window-eq1 : goal.returns-else-window-eq1
-returns-else-window-eq1 c =
+pub returns : goal.returns
+returns c =
     let w = c.args.window.now in
-    let rs = c.args.pages.now in
-    let h = ends c.args.hint.now in
-    let kind = ne_eqb w.kind 1 c.if-window-eq1.false in
-    let long : eqb (length rs) (length c.args.verdicts.now) ≡ true = eq-eqb _ _ (omega arith) in
-    let same = all-kind w (length rs) (length c.args.verdicts.now) false kind c.in_ok-sensible.ensures long in
-    MatchResult-weaker c.rule_all-else-window-eq1.result c.rule_all-else-window-eq1.ensures (λ u p. (same None p.0, subst (λ (b : Bool). PageBytes b (frame w) h rs c.rule_all-else-window-eq1.new.verdicts) (sym kind) p.1)) (λ e p. (same (Some e) p.0, p.1))
+    let long : eqb (length c.args.pages.now) (length c.args.verdicts.now) ≡ true = eq-eqb _ _ (omega arith) in
+    let (pairs, poses) = c.in_ok-question.ensures w c.in_ok-asked.ensures.1 in
+    (rw (c.in_ok-asked.ensures.0, long, pairs) refl, λ k d lt. c.loop-i.invariant k d (omega arith))

@@ -75,7 +75,7 @@ fn shown<'a>(heap: Global, given: &Given) -> Result<Shape, NotGranted<'a>>
 
 // All that a source gives.
 fn gather<S: ShapeSource>(heap: Global, source: &mut S) -> Result<Shape, AllocError>
-    ensures { IfOk result (λ s. (s.code ≡ (S.ShapeSource.means source.old).code) × (s.coords.items ≡ (S.ShapeSource.means source.old).coords)) }
+    ensures { IfOk result (λ s. (s.code ≡ (S.means source.old).code) × (s.coords.items ≡ (S.means source.old).coords)) }
 {
     let code = source.code();
     let mut coords = Vec::new(heap);

@@ -44,7 +44,7 @@ fn unwrapped<'a>(words: &mut Words<'a>) -> Result<Answer, NotGranted<'a>> {
     Ok(ends_or_refusal(bounds.to_ordinary())?)
 }
 
-// A line with a word too many is wrong before its answer counts, which may be a refusal.
+// The line has to end before its answer counts, which may be a refusal.
 fn ask<'a, K: Bounds>(function: &'a str, words: &mut Words<'a>) -> Result<Answer, NotGranted<'a>> {
     let named = function
         .parse()

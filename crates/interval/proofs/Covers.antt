@@ -271,15 +271,15 @@ expands p d P D f =
     (λ g v (V, n) h.
     between-covered (Ordinary.moved p d) v (Between.moved_ends p d) V (Between.moves p d P D f (grind arith) (grind arith) v (V, n) (rw (covered-between p v g) at h))))
 
--- ---- the laws at an answer that is the defined one
-pub contains-at : (p q : Pair) (r : Bool) → Ends p → Ends q → r ≡ Wraparound.contains p q → Contains (covered p) (covered q) r
-contains-at p q r P Q e = rw e (contains p q P Q)
+-- ---- an answer that is the defined one keeps the law
+pub contains-answer : (p q : Pair) (r : Bool) → Ends p → Ends q → r ≡ Wraparound.contains p q → record { law : Contains (covered p) (covered q) r; exact : r ≡ Wraparound.contains p q }
+contains-answer p q r P Q e = record { law = rw e (contains p q P Q); exact = e }
 
-pub merges_at : (p q r : Pair) → Ends p → Ends q → r ≡ merged p q → Merges (covered p) (covered q) (covered r)
-merges_at p q r P Q e = rw e (merges p q P Q)
+pub merged-answer : (p q r : Pair) → Ends p → Ends q → r ≡ merged p q → record { law : Merges (covered p) (covered q) (covered r); exact : r ≡ merged p q }
+merged-answer p q r P Q e = record { law = rw e (merges p q P Q); exact = e }
 
-pub adds_at : (p : Pair) (x : Float) (r : Pair) → Ends p → Held x → r ≡ with_value p x → Adds (covered p) x (covered r)
-adds_at p x r P X e = rw e (adds p x P X)
+pub added-answer : (p : Pair) (x : Float) (r : Pair) → Ends p → Held x → r ≡ with_value p x → record { law : Adds (covered p) x (covered r); exact : r ≡ with_value p x }
+added-answer p x r P X e = record { law = rw e (adds p x P X); exact = e }
 
-pub expands_at : (p : Pair) (d : Float) (r : Pair) → Ends p → Held d → r ≡ expanded p d → Expands (covered p) d (covered r)
-expands_at p d r P D e = rw e (expands p d P D)
+pub expanded-answer : (p : Pair) (d : Float) (r : Pair) → Ends p → Held d → r ≡ expanded p d → record { law : Expands (covered p) d (covered r); exact : r ≡ expanded p d }
+expanded-answer p d r P D e = record { law = rw e (expands p d P D); exact = e }

@@ -1,11 +1,12 @@
-use Rattle.std.proofs.Common.{◌≡◌, ◌^◌, List, [], ◌∷◌, sym, ap, ◌∙◌, subst, rules}
+use Rattle.std.proofs.Common.{◌≡◌, ◌^◌, List, [], ◌∷◌, sym, ap, ◌∙◌, subst, inl, inr, rules}
+use mathlib.Core.List.Memᴰ
 use mathlib.Core.List.{Memᴰ}
 use lib.Ieee.{Float}
 use Rattle.interval.specs.Pairs.{ends}
 use Rattle.shapes.specs.declared.coord.Coord.{Coord}
 use Rattle.shapes.specs.Source.{InBinary64}
 use Rattle.bounding.specs.Laws.{HeldCoords}
-use Rattle.bounding.specs.Record.{place}
+use Rattle.bounding.specs.Record.{Kept, divide, place}
 use Rattle.bounding.specs.Walk.{walk, kept, mark}
 use Rattle.shapes.specs.Hulls.{Four, four, none, with}
 use Rattle.shapes.specs.declared.hulls.Hulls.{Hulls}
@@ -13,11 +14,7 @@ use Rattle.bounding.proofs.Walks.{walk-join, walk-next, walk_end, walk-adds}
 use Rattle.bounding.proofs.bounder.CountingBounder.update_source.Goals as goal
 
 one_more : (c : Coord) (cs l : List Coord) → l ≡ c ∷ cs → InBinary64 c → HeldCoords cs → HeldCoords l
-one_more c cs l e h k d m = go (subst (λ (z : List Coord). Memᴰ d z) e m)
-  where
-    go : Memᴰ d (c ∷ cs) → InBinary64 d
-    go (Memᴰ.head q) = subst InBinary64 (sym q) h
-    go (Memᴰ.tail n) = k d n
+one_more c cs l e h k d m = elim (Memᴰ.cases_cons (subst (λ (z : List Coord). Memᴰ d z) e m)) [ inl q ↦ subst InBinary64 (sym q) h | inr n ↦ k d n ]
 
 none_left : (l : List Coord) → l ≡ [] → HeldCoords l
 none_left l e d m = elim (subst (λ (z : List Coord). Memᴰ d z) e m) [ ]
@@ -44,19 +41,13 @@ loop-c-preserved g c =
       λ h. c.loop-c.invariant.1 (one_more x cs l e c.in-Some.ensures.gives.3 h),
     )
 
-pub returns : goal.returns
-returns g c =
+pub returns-clause-adds : goal.returns-clause-adds
+returns-clause-adds g c ss e =
     let s = g.S.ShapeSource.means c.args.source.now in
     let k = kept c.args.self.now.kept in
-    let h = ends c.args.self.now.hint in
-    let ends' = c.in_default.ensures.gives in
-    let walked = c.settled-last.ensures ∙ walk_end c.divide-middle.result (kept c.loop-c.page) (four c.loop-c.hulls) (g.S.ShapeSource.means c.loop-c.source).coords ends'.0 ∙ c.loop-c.invariant.0
-    ∙ ap (λ (t : Float). walk t k none s.coords) c.divide-middle.ensures in
-    let marked : mark (kept c.settled-last.result) (2 ^ place c.code-code.result) ≡ mark (walk _ k none s.coords) (2 ^ place s.code) =
-    λ i. mark (walked i) (2 ^ place (c.code-code.ensures i)) in
-    record {
-      adds = λ ss e. (λ i. record { left = (kept c.settled-last.result).left; mid = (kept c.settled-last.result).mid; right = (kept c.settled-last.result).right; y = (kept c.settled-last.result).y; z = (kept c.settled-last.result).z; m = (kept c.settled-last.result).m; codes = c.with.ensures i }) ∙ marked ∙ walk-adds h k s ss e;
-      hint = search rules;
-      held = c.loop-c.invariant.1 (none_left (g.S.ShapeSource.means c.loop-c.source).coords ends'.0);
-      drained = subst (λ z. (g.S.ShapeSource.means z).coords ≡ []) (sym ends'.1) ends'.0;
-    }
+    let last = walk_end c.divide-middle.result (kept c.loop-c.page) (four c.loop-c.hulls) (g.S.ShapeSource.means c.loop-c.source).coords c.in_default.ensures.gives.0 in
+    let walked : kept c.settled-last.result ≡ walk (divide (ends c.args.self.now.hint)) k none s.coords = c.settled-last.ensures ∙ last ∙ c.loop-c.invariant.0 ∙ ap (λ (t : Float). walk t k none s.coords) c.divide-middle.ensures in
+    ◌∙◌ {b = mark (kept c.settled-last.result) (2 ^ place s.code)} (search rules) (ap (λ (l : Kept). mark l (2 ^ place s.code)) walked ∙ walk-adds (ends c.args.self.now.hint) k s ss e)
+
+pub returns-clause-held : goal.returns-clause-held
+returns-clause-held g c = c.loop-c.invariant.1 (none_left (g.S.ShapeSource.means c.loop-c.source).coords c.in_default.ensures.gives.0)

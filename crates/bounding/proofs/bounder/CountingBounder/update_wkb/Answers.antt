@@ -1,9 +1,7 @@
-use Rattle.std.proofs.Common.{◌≡◌, ◌^◌, List, [], ◌∷◌, sym, ap, ◌∙◌, subst}
+use Rattle.std.proofs.Common.{◌≡◌, ◌^◌, List, [], ◌∷◌, sym, ap, ◌∙◌, subst, rules}
 use mathlib.Core.List.{Memᴰ}
-use lib.Bits.{bit_or}
 use Rattle.std.specs.List.{AllByRecursion}
 use Rattle.interval.specs.Pairs.{ends}
-use Rattle.shapes.specs.declared.code.Code.{Code}
 use Rattle.shapes.specs.declared.coord.Coord.{Coord}
 use Rattle.shapes.specs.Pending.{still, shape_of}
 use Rattle.shapes.specs.Source.{Shape, InBinary64}
@@ -11,7 +9,7 @@ use Rattle.shapes.specs.Wkb.{code_at, coords_in, decode}
 use Rattle.bounding.specs.Laws.{HeldCoords}
 use Rattle.bounding.specs.Record.{Kept, place}
 use Rattle.shapes.specs.Hulls.{four, none}
-use Rattle.bounding.specs.Walk.{walk, kept}
+use Rattle.bounding.specs.Walk.{walk, kept, mark}
 use Rattle.bounding.proofs.Walks.{walk-run, runs-add}
 use Rattle.bounding.proofs.Gathers.{PlainKept}
 use Rattle.bounding.proofs.bounder.CountingBounder.update_wkb.Goals as goal
@@ -48,9 +46,9 @@ returns-clause-adds c =
     let read = c.in_ok-checked.ensures.decoded in
     let opened : shape_of c.new-cursor.result ≡ s = c.new-cursor.ensures (code_at b) (coords_in b) (ap decode read.0 ∙ read.1) in
     let came = ap (λ (z : Shape). z.coords) opened in
-    let coded = c.with.ensures ∙ ap (λ (z : Code). bit_or c.loop-run.page.codes.bits (2 ^ place z)) (c.code-code.ensures ∙ ap (λ (z : Shape). z.code) opened) in (
+    let code : c.code-code.result ≡ s.code = c.code-code.ensures ∙ ap (λ (z : Shape). z.code) opened in (
       read.1,
-      λ ss e. (λ i. record { left = p.left; mid = p.mid; right = p.right; y = p.y; z = p.z; m = p.m; codes = coded i })
-          ∙ runs-add h k p s t (still c.loop-run.cursor) (λ q. let r = c.loop-run.invariant.0 q in (r.0, r.1 ∙ ap (walk t k none) came)) over c.divide-middle.ensures ss e,
+      λ ss e. ◌∙◌ {b = mark p (2 ^ place s.code)} (search rules)
+          (runs-add h k p s t (still c.loop-run.cursor) (λ q. let r = c.loop-run.invariant.0 q in (r.0, r.1 ∙ ap (walk t k none) came)) over c.divide-middle.ensures ss e),
       subst HeldCoords came (held _ (c.loop-run.invariant.1 (subst (AllByRecursion InBinary64) (sym over) tt))),
     )

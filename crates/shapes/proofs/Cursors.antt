@@ -1,6 +1,7 @@
 -- Laws of a cursor's pending counts.
-use Rattle.std.proofs.Common.{◌≡◌, ℕ, zero, suc, ◌+◌, ◌-◌, ◌*◌, ◌<◌, ◌≤◌, Bool, true, false, ◌≢◌, List, [], ◌∷◌, length, get_or, drop, set, replicate, Some, None, sym, refl, ap, ◌∙◌, arith, length-set, get_or-set_other, get_or-set_same}
+use Rattle.std.proofs.Common.{◌≡◌, ℕ, zero, suc, ◌+◌, ◌-◌, ◌*◌, ◌<◌, ◌≤◌, Bool, true, false, ◌≢◌, List, [], ◌∷◌, length, get_or, drop, set, replicate, Some, None, Ok, Err, Result, MatchResult, Option, MatchOption, sym, refl, ap, ◌∙◌, subst, arith, length-set, get_or-set_other, get_or-set_same}
 use lib.Ieee.{Float}
+use Rattle.std.specs.Result.{result_ok}
 use Rattle.interval.specs.declared.fault.Cause.TheVariants.{Truncated}
 use Rattle.interval.specs.declared.fault.Fault.{Fault}
 use Rattle.shapes.specs.declared.endian.Endian.{Endian}
@@ -18,6 +19,20 @@ use Rattle.shapes.specs.Wkb.{Reader, points, line, times, counted, shape, finish
 use Rattle.shapes.specs.Pending.{pending, parts}
 use Rattle.shapes.proofs.Coding.{coded}
 use Rattle.shapes.proofs.Reading.{counted-there, whole-not, shape_is, shape-header, shape-unheaded, eights-fit, eights-cut, decode-fails}
+
+-- ---- answers of which only the `Ok` is kept
+
+pub kept : {T E : Type 0} (r : Result T E) (P : T → Type 0) (Q : E → Type 0) (x : T) → result_ok r ≡ Some x → MatchResult r P Q → P x
+kept (Ok y) P Q x e m = let q : y ≡ x = cc in subst P q m
+kept (Err f) P Q x e m = cc
+
+pub lost : {T E : Type 0} (r : Result T E) (P : T → Type 0) (Q : E → Type 0) → result_ok r ≡ None → MatchResult r P Q → (f : E) × Q f
+lost (Ok y) P Q e m = cc
+lost (Err f) P Q e m = (f, m)
+
+pub by_option : {A X : Type 0} (r : Option A) {P : Type 0} {Q : A → Type 0} → MatchOption r P Q → (P → X) → ((x : A) → Q x → X) → X
+by_option None w f g = f w
+by_option (Some x) w f g = g x w
 
 -- ---- counts
 

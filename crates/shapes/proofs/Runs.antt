@@ -20,8 +20,8 @@ use Rattle.shapes.specs.Pending.{pending, parts}
 use Rattle.shapes.specs.Steps.{Fresh}
 use Rattle.shapes.specs.Wkb.{Reader, points, line, times}
 use Rattle.shapes.proofs.Cursors.{coord-there, coord-cut, points_none, parts-set, pending-at}
-use Rattle.shapes.proofs.Spans.{nan-value, room, column-is}
-use Rattle.shapes.proofs.Starts.{rings_start}
+use Rattle.shapes.proofs.Spans.{nan-value, column-is}
+use Rattle.shapes.proofs.Starts.{joins_is, rings_start}
 
 -- ---- hulls by columns
 
@@ -87,16 +87,10 @@ module _ (o : Endian) (n : ℕ) (b : List ℕ) (ps : List (List ℕ)) (x y z m :
 
 -- ---- the run that is taken
 
-joins_at : (o : Endian) (d : Dimension) (b : List ℕ) → (coord_at o d true b).joins ≡ true
-joins_at o Xy b = refl
-joins_at o Xyz b = refl
-joins_at o Xym b = refl
-joins_at o Xyzm b = refl
-
 pub run-joined : (o : Endian) (d : Dimension) (n : ℕ) (b : List ℕ) → AllByRecursion (λ c. c.joins ≡ true) (run o d true n b)
 unfolding run
 run-joined o d zero b = tt
-run-joined o d (suc n) b = (joins_at o d b, run-joined o d n (drop (8 * width d) b))
+run-joined o d (suc n) b = (joins_is o d true b, run-joined o d n (drop (8 * width d) b))
 
 pub run-first : (o : Endian) (d : Dimension) (j : Bool) (n : ℕ) (b : List ℕ) → 0 < n → run o d j n b ≡ coord_at o d j b ∷ run o d true (n - 1) (drop (8 * width d) b)
 unfolding run
@@ -111,14 +105,12 @@ reads o d zero n K b le h =
     ap₂ (λ (m i : ℕ). (points o d true m K (drop i b)).coords) e (sym (zero-mul (8 * width d)))
 reads o d (suc k) n K b le h =
     let w = 8 * width d in
-    let z : 0 < suc k = omega arith in
     let zn : 0 < n = omega arith in
-    let q = room (suc k) w (length b) z h in
-    let e : suc k - 1 ≡ k = omega arith in
-    let s : k * w ≤ length (drop w b) = rw length-drop (subst (λ (m : ℕ). m * w ≤ length b - w) e q.1) in
+    let one : w ≤ length b = omega (arith, suc-mul k w) in
+    let s : k * w ≤ length (drop w b) = rw length-drop (omega (arith, suc-mul k w)) in
     let le' : k ≤ n - 1 = omega arith in
     let f : n - 1 - k ≡ n - suc k = omega arith in
-    coord-there o d true n K b zn q.0
+    coord-there o d true n K b zn one
     ∙ ap (λ (l : List Coord). coord_at o d true b ∷ l) (reads o d k (n - 1) K (drop w b) le' s)
     ∙ ap₂ (λ (m : ℕ) (l : List ℕ). coord_at o d true b ∷ (run o d true k (drop w b) ++ (points o d true m K l).coords)) f (drop-drop (k * w) w b ∙ ap (λ (m : ℕ). drop m b) (add_comm w (k * w) ∙ sym (suc-mul k w)))
 
@@ -141,12 +133,13 @@ module _ (o : Endian) (d : Dimension) (q : Kind) (counts : List ℕ) (depth k : 
       let w = 8 * width d in
       let n = get_or counts 32 0 in
       let zn : 0 < n = omega arith in
-      let x = room k w (length b) some there in
-      let s : (k - 1) * w ≤ length (drop w b) = rw length-drop x.1 in
+      let g : k ≡ suc (k - 1) = omega arith in
+      let more : suc (k - 1) * w ≤ length b = subst (λ (m : ℕ). m * w ≤ length b) g there in
+      let one : w ≤ length b = omega (arith, suc-mul (k - 1) w) in
+      let s : (k - 1) * w ≤ length (drop w b) = rw length-drop (omega (arith, suc-mul (k - 1) w)) in
       let le' : k - 1 ≤ n - 1 = omega arith in
       let f : n - 1 - (k - 1) ≡ n - k = omega arith in
-      let g : k ≡ suc (k - 1) = omega arith in
-      coord-there o d j n K b zn x.0
+      coord-there o d j n K b zn one
       ∙ ap (λ (m : List Coord). coord_at o d j b ∷ m) (reads o d (k - 1) (n - 1) K (drop w b) le' s
       ∙ ap₂ (λ (m : ℕ) (i : List ℕ). run o d true (k - 1) (drop w b) ++ (points o d true m K i).coords) f
       (drop-drop ((k - 1) * w) w b ∙ ap (λ (m : ℕ). drop m b) (add_comm w ((k - 1) * w) ∙ sym (suc-mul (k - 1) w) ∙ ap (λ (m : ℕ). m * w) (sym g)) ∙ sym r)

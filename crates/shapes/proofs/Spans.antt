@@ -1,5 +1,5 @@
 -- One value more on a span, by `<` alone, and columns of points.
-use Rattle.std.proofs.Common.{◌≡◌, ℕ, zero, suc, ◌+◌, ◌-◌, ◌*◌, ◌<◌, ◌≤◌, Bool, true, false, cond, not, ◌||◌, T, List, ◌∷◌, length, get_or, take, drop, map, sym, refl, ap, ◌∙◌, subst, ap₂, mul_comm, add_comm, mul-suc, mul-zero, arith, lit<}
+use Rattle.std.proofs.Common.{◌≡◌, ℕ, zero, suc, ◌+◌, ◌*◌, ◌<◌, ◌≤◌, Bool, true, false, cond, not, ◌||◌, T, List, ◌∷◌, length, get_or, take, drop, map, sym, refl, ap, ◌∙◌, subst, ap₂, add_comm, mul-suc, mul-zero, arith, lit<}
 use lib.Ieee.{Float, nan, le, lt, is_nan}
 use Rattle.std.specs.Float.{float_min, float_max}
 use Rattle.std.proofs.lemmas.List.{drop-drop, get_or-drop, get_or-take}
@@ -111,12 +111,3 @@ module _ (o : Endian) (at : ℕ) where
   column-is size (suc n) b e h =
       column-is size n (drop size b) (with_bits e (bits (take size b))) h
       ∙ ap (λ m. column o at size n (drop size b) (with_bits e m)) (u64-taken o at size b h)
-
--- ---- room for rows
-
-pub room : (n s m : ℕ) → 0 < n → n * s ≤ m → (s ≤ m) × ((n - 1) * s ≤ m - s)
-room zero s m h k = absurd (omega arith)
-room (suc n) s m h k =
-    let e : n ≡ suc n - 1 = omega arith in
-    let j : suc n * s ≡ s + n * s = mul_comm (suc n) s ∙ mul-suc s n ∙ ap (λ (q : ℕ). q + s) (mul_comm s n) ∙ add_comm (n * s) s in
-    (omega arith, subst (λ (q : ℕ). q * s ≤ m - s) e (omega arith))

@@ -88,14 +88,11 @@ impl From<Span> for Interval {
 }
 
 // Two spans with four values more each. Where none of these is a NaN, which one test finds, no value is tested again as it is taken.
-fn block<const SIZE: usize, const BIG: bool>(
-    a: Span,
-    b: Span,
-    x: [u64; 4],
-    y: [u64; 4],
-) -> (Span, Span)
+#[inline(always)]
+fn block(a: Span, b: Span, x: [u64; 4], y: [u64; 4]) -> (Span, Span)
     ensures { (spanned result.0 ≡ fold with_bits (spanned a) x) × (spanned result.1 ≡ fold with_bits (spanned b) y) }
 {
+    // Point by point: a test of all x and then of all y, or one by an iterator, takes a tenth more time.
     let [x0, x1, x2, x3] = x;
     let [y0, y1, y2, y3] = y;
     if is_nan(x0)
@@ -124,7 +121,7 @@ fn scan<const SIZE: usize, const BIG: bool>(points: &[[u8; SIZE]], at: usize) ->
     for four in fours {
         let x = ordinates::<SIZE, BIG>(four, at);
         let y = ordinates::<SIZE, BIG>(four, at + 8);
-        (a, b) = block::<SIZE, BIG>(a, b, x, y);
+        (a, b) = block(a, b, x, y);
     }
     for p in ones {
         a = a.with(bits_at::<BIG>(p, at));

@@ -1,29 +1,13 @@
-use Rattle.std.proofs.Common.{◌≡◌, ◌-◌, ◌≢◌, length, get_or, Some, None, Option, MatchOption, sym, ap, ◌∙◌, arith, get_or-set_other, rules}
+use Rattle.std.proofs.Common.{◌≡◌, length, Some, None, Option, MatchOption, sym, ap, ◌∙◌, arith, rules}
 use Rattle.shapes.specs.Pending.{still}
 use Rattle.shapes.specs.Steps.{entered}
-use Rattle.shapes.proofs.Coding.{fits-dim, fits-takes}
+use Rattle.shapes.proofs.Coding.{fits-dim}
 use Rattle.shapes.proofs.Cursors.{kept, lost, pending-parts, part_headed, part_unheaded}
 use Rattle.shapes.proofs.state.Cursor.start_part.Goals as goal
 
 option_map : {A : Type 0} (r : Option A) {P P' : Type 0} {Q Q' : A → Type 0} → MatchOption r P Q → (P → P') → ((x : A) → Q x → Q' x) → MatchOption r P' Q'
 option_map None w f g = f w
 option_map (Some x) w f g = g x w
-
-pub enter-requires : goal.enter-requires
-enter-requires c =
-    let s = c.args.self.now in
-    let d1 = s.depth - 1 in
-    let v = get_or s.counts d1 0 - 1 in
-    let ne31 : 31 ≢ d1 = omega (arith, s.shallow) in
-    let ne32 : 32 ≢ d1 = omega (arith, s.shallow) in
-    let q = kept c.header.result _ _ (c.in_ok-order.order, c.in_ok-order.code, c.in_ok-order.after) (sym c.ok.ensures.value ∙ c.in_ok-order.was) c.header.ensures in
-    record {
-      between = record {
-        rings = get_or-set_other s.counts d1 31 v 0 ne31 ∙ c.requires.between.rings;
-        points = get_or-set_other s.counts d1 32 v 0 ne32 ∙ c.requires.between.points;
-      };
-      fitting = λ _. fits-takes s.inner s.code.dim c.in_ok-order.code q.3;
-    }
 
 pub returns : goal.returns
 unfolding still entered

@@ -8,7 +8,8 @@ use Rattle.std.proofs.lemmas.List.Sums.{fold-append, fold_more}
 use Rattle.std.proofs.Math.Seq.{take-add}
 use Rattle.std.specs.List.{fold}
 use Rattle.std.specs.Simd.{first_chunks}
-use Rattle.number.proofs.Plain.{le_left, le_right, le_of_lt, lt-is_not_le, not_le_of_lt}
+use Rattle.std.proofs.lemmas.Float.{le_left, le_right, le_of_lt}
+use Rattle.number.proofs.Plain.{lt-is_not_le, not_le_of_lt}
 use Rattle.interval.specs.Pairs.{Pair, pair, nothing}
 use Rattle.interval.specs.Ordinary.{with_value}
 use Rattle.shapes.specs.declared.endian.Endian.{Endian}

@@ -68,11 +68,13 @@ impl Span {
     }
 
     // The span with four values more.
-    fn with_all(self, values: [u64; 4]) -> Span
+    fn with_all(mut self, values: [u64; 4]) -> Span
         ensures { spanned result ≡ fold with_bits (spanned self) values }
     {
-        let [a, b, c, d] = values;
-        self.with(a).with(b).with(c).with(d)
+        for bits in values {
+            self = self.with(bits);
+        }
+        self
     }
 }
 

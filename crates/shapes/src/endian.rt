@@ -1,25 +1,32 @@
 // The byte order of a shape's numbers.
-ghost use Rattle.std.specs.Prelude.{◌≡◌};
+ghost use Rattle.std.specs.Prelude.{◌≡◌, Some, None, MatchResult};
+ghost use Rattle.interval.specs.declared.fault.Cause.TheVariants.{ByteOrder};
 ghost use Rattle.shapes.specs.Numbers.{order_of, u32_at, f64_at};
 
-#[derive(Clone, Copy)]
+use interval::Cause;
+
+#[derive(Clone, Copy, PartialEq, Eq, Debug)]
 pub(crate) enum Endian {
     Big,
     Little,
 }
 
-impl Endian {
-    // The order that an order byte names.
-    pub(crate) fn from_byte(b: u8) -> Option<Endian>
-        ensures { result ≡ order_of b }
-    {
+// The order that an order byte names.
+impl TryFrom<u8> for Endian {
+    type Error = Cause;
+
+    ghost try_from_gives = { λ b r. MatchResult r (λ o. order_of b ≡ Some o) (λ e. (order_of b ≡ None) × (e ≡ ByteOrder)) };
+
+    fn try_from(b: u8) -> Result<Endian, Cause> {
         match b {
-            0 => Some(Endian::Big),
-            1 => Some(Endian::Little),
-            _ => None,
+            0 => Ok(Endian::Big),
+            1 => Ok(Endian::Little),
+            _ => Err(Cause::ByteOrder),
         }
     }
+}
 
+impl Endian {
     // A count or a code.
     pub(crate) fn read_u32(self, b: [u8; 4]) -> u32
         ensures { result ≡ u32_at self b }

@@ -46,10 +46,10 @@ pub(crate) fn header(
     let place = total - bytes.len();
     match bytes {
         [first, a, b, c, d, rest @ ..] => {
-            let Some(order) = Endian::from_byte(*first) else {
+            let Ok(order) = Endian::try_from(*first) else {
                 return Err(Fault::new(Cause::ByteOrder, place));
             };
-            let Some(code) = Code::from_number(order.read_u32([*a, *b, *c, *d])) else {
+            let Ok(code) = Code::try_from(order.read_u32([*a, *b, *c, *d])) else {
                 return Err(Fault::new(Cause::TypeCode, place + 1));
             };
             if code.fits_in(outer) {

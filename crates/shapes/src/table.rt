@@ -22,9 +22,9 @@ impl<'a> Table<'a> {
     pub fn new(code: u32, coords: &'a [Coord]) -> Result<Table<'a>, Fault>
         ensures { MatchResult result (λ t. (code_of code ≡ Some t.code) × (t.rest.now ≡ coords.now)) (λ f. (code_of code ≡ None) × (f ≡ at TableCode 0)) }
     {
-        match Code::from_number(code) {
-            Some(code) => Ok(Table { code, rest: coords }),
-            None => Err(Fault::new(Cause::TableCode, 0)),
+        match Code::try_from(code) {
+            Ok(code) => Ok(Table { code, rest: coords }),
+            Err(_) => Err(Fault::new(Cause::TableCode, 0)),
         }
     }
 }

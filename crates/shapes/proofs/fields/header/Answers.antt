@@ -10,18 +10,18 @@ pub returns-in_default : goal.returns-in_default
 returns-in_default c =
     let b = c.args.bytes.now in
     let h : 1 ≤ length b = search rules in
-    stops_first c.args.total c.args.outer b _ ByteOrder c.new-in_default.ensures (λ f. header-order c.args.outer b f h (sym c.from_byte.ensures ∙ c.in_default.is))
+    stops_first c.args.total c.args.outer b _ ByteOrder c.new-in_default.ensures (λ f. header-order c.args.outer b f h c.in_default.ensures.0)
 
-pub returns-in_default-from_number : goal.returns-in_default-from_number
-returns-in_default-from_number c =
+pub returns-in_default-try_from : goal.returns-in_default-try_from
+returns-in_default-try_from c =
     let b = c.args.bytes.now in
     let h : 1 ≤ length b = search rules in
     let h5 : 5 ≤ length b = search rules in
-    let o = c.in-Some.order in
-    let e = sym c.from_byte.ensures ∙ c.in-Some.is in
+    let o = c.in-Ok.order in
+    let e = c.in-Ok.ensures in
     let n : c.read_u32.result ≡ u32_at o (drop 1 b) = c.read_u32.ensures ∙ u32_list_1 o b in
-    let e2 = ap code_of (sym n) ∙ sym c.from_number.ensures ∙ c.in_default-from_number.is in
-    stops_second c.args.total c.args.outer b _ TypeCode h c.requires c.new-in_default-from_number.ensures (λ f. header-code c.args.outer b f o h e h5 e2)
+    let e2 = ap code_of (sym n) ∙ c.in_default-try_from.ensures.0 in
+    stops_second c.args.total c.args.outer b _ TypeCode h c.requires c.new-in_default-try_from.ensures (λ f. header-code c.args.outer b f o h e h5 e2)
 
 pub returns-in-empty : goal.returns-in-empty
 returns-in-empty c =
@@ -48,11 +48,11 @@ returns-then-fits_in c =
     let b = c.args.bytes.now in
     let h : 1 ≤ length b = search rules in
     let h5 : 5 ≤ length b = search rules in
-    let o = c.in-Some.order in
-    let d = c.in-Some-from_number.code in
-    let e = sym c.from_byte.ensures ∙ c.in-Some.is in
+    let o = c.in-Ok.order in
+    let d = c.in-Ok-try_from.code in
+    let e = c.in-Ok.ensures in
     let n : c.read_u32.result ≡ u32_at o (drop 1 b) = c.read_u32.ensures ∙ u32_list_1 o b in
-    let e2 = ap code_of (sym n) ∙ sym c.from_number.ensures ∙ c.in-Some-from_number.is in
+    let e2 = ap code_of (sym n) ∙ c.in-Ok-try_from.ensures in
     let e3 : fits c.args.outer d ≡ true = sym c.fits_in.ensures ∙ c.if-fits_in.true in
     (omega (arith, ap length (take_rest b 5), length-drop 5 b), λ f. header-there c.args.outer b f o h e d h5 e2 e3 ∙ ap (f o d) (sym (take_rest b 5)), code-at b o d e e2, e3)
 
@@ -61,10 +61,10 @@ returns-else-fits_in c =
     let b = c.args.bytes.now in
     let h : 1 ≤ length b = search rules in
     let h5 : 5 ≤ length b = search rules in
-    let o = c.in-Some.order in
-    let d = c.in-Some-from_number.code in
-    let e = sym c.from_byte.ensures ∙ c.in-Some.is in
+    let o = c.in-Ok.order in
+    let d = c.in-Ok-try_from.code in
+    let e = c.in-Ok.ensures in
     let n : c.read_u32.result ≡ u32_at o (drop 1 b) = c.read_u32.ensures ∙ u32_list_1 o b in
-    let e2 = ap code_of (sym n) ∙ sym c.from_number.ensures ∙ c.in-Some-from_number.is in
+    let e2 = ap code_of (sym n) ∙ c.in-Ok-try_from.ensures in
     let e3 : fits c.args.outer d ≡ false = sym c.fits_in.ensures ∙ c.if-fits_in.false in
     stops_second c.args.total c.args.outer b _ PartType h c.requires c.new-else-fits_in.ensures (λ f. header-misfit c.args.outer b f o h e d h5 e2 e3)

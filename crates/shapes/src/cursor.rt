@@ -37,7 +37,7 @@ impl<'a> Cursor<'a> {
             depth: 0,
             counts: [0; 33],
         };
-        let Ok((order, code, after)) = header(bytes, bytes.len(), None) else {
+        let Ok((order, code, after)) = header(bytes, None) else {
             return s;
         };
         s.code = code;
@@ -66,7 +66,7 @@ impl<'a> Cursor<'a> {
         requires points { slice_index self.old.counts 32 ≡ 0 }
         ensures { MatchBool result (Moves self.old self.new) (still self.old ≡ []) }
     {
-        match count(self.rest, self.rest.len(), self.order) {
+        match count(self.rest, self.order) {
             Ok((n, rest)) => {
                 self.rest = rest;
                 self.counts[RINGS] -= 1;
@@ -92,7 +92,7 @@ impl<'a> Cursor<'a> {
             self.counts[POINTS] = 1;
             return true;
         }
-        match count(after, after.len(), order) {
+        match count(after, order) {
             Ok((n, rest)) => match kind {
                 Kind::Point | Kind::Line => {
                     self.rest = rest;
@@ -139,7 +139,7 @@ impl<'a> Cursor<'a> {
             kind: self.inner,
             dim: self.code.dim,
         };
-        match header(self.rest, self.rest.len(), Some(outer)) {
+        match header(self.rest, Some(outer)) {
             Ok((order, code, after)) => {
                 let d = self.depth - 1;
                 self.counts[d] -= 1;

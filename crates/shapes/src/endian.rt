@@ -1,7 +1,7 @@
 // The byte order of a shape's numbers.
 ghost use Rattle.std.specs.Prelude.{◌≡◌, Some, None, MatchResult};
 ghost use Rattle.interval.specs.declared.fault.Cause.TheVariants.{ByteOrder};
-ghost use Rattle.shapes.specs.Numbers.{order_of, u32_at, f64_at};
+ghost use Rattle.shapes.specs.Numbers.{order_of, u32_at, u64_at, f64_at};
 
 use interval::Cause;
 
@@ -37,14 +37,21 @@ impl Endian {
         }
     }
 
+    // An ordinate's bits.
+    pub(crate) fn read_u64(self, b: [u8; 8]) -> u64
+        ensures { result ≡ u64_at self b }
+    {
+        match self {
+            Endian::Big => u64::from_be_bytes(b),
+            Endian::Little => u64::from_le_bytes(b),
+        }
+    }
+
     // An ordinate.
+    #[tactic(auto, unfolding(crate::specs::Numbers::f64_at))]
     pub(crate) fn read_f64(self, b: [u8; 8]) -> f64
         ensures { result ≡ f64_at self b }
     {
-        let bits = match self {
-            Endian::Big => u64::from_be_bytes(b),
-            Endian::Little => u64::from_le_bytes(b),
-        };
-        std::num::f64_from_bits_with_nan(bits)
+        std::num::f64_from_bits_with_nan(self.read_u64(b))
     }
 }

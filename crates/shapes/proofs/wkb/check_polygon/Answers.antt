@@ -1,15 +1,15 @@
-use Rattle.std.proofs.lemmas.Result.{err_from_is_err_and}
 use Rattle.shapes.specs.Wkb.{times, line}
-use Rattle.shapes.proofs.Reading.{counted-follow, counted-cut}
+use Rattle.shapes.proofs.Reading.{err-stop, counted-follow, counted-cut}
 use Rattle.shapes.proofs.wkb.check_polygon.Goals as goal
 
 pub returns-in_err-n : goal.returns-in_err-n
 returns-in_err-n c =
-    let p = err_from_is_err_and c.from_residual.result c.from_residual.ensures.1 in
+    let b = c.args.bytes.now in
+    let r = times (line c.args.order c.args.dim) in
     let q = c.in_err-n.ensures in
-    rw (p.1, p.2) (counted-cut c.args.order (times (line c.args.order c.args.dim)) c.args.bytes.now c.args.total _ q.0 q.1)
+    err-stop _ _ _ _ c.from_residual.ensures.1 (counted-cut c.args.order r b _ q.0 q.1)
 
 pub returns : goal.returns
 returns c =
     let q = c.in_ok-n.ensures in
-    counted-follow c.args.order (times (line c.args.order c.args.dim)) c.args.bytes.now c.in_ok-n.n c.in_ok-n.rest.now q.0 q.1 q.2 c.args.total c.check_rings.result c.check_rings.ensures
+    counted-follow c.args.order (times (line c.args.order c.args.dim)) c.args.bytes.now c.in_ok-n.n c.in_ok-n.rest.now q.0 q.1 q.2 c.check_rings.result c.check_rings.ensures

@@ -41,4 +41,4 @@ unfolding still
 returns-in-Err c =
     let s = c.args.self.now in
     ap (λ r. r.coords) (pending-parts s.order s.code.dim s.joins s.inner s.counts s.depth s.rest.now c.requires.rings c.requires.points)
-    ∙ part_unheaded s.code.dim s.inner s.counts s.depth s.rest.now c.requires.deep s.shallow c.requires.more _ _ c.in-Err.ensures
+    ∙ part_unheaded s.code.dim s.inner s.counts s.depth s.rest.now c.requires.deep s.shallow c.requires.more _ c.in-Err.ensures

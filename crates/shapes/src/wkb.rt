@@ -18,6 +18,8 @@ fn check_points(bytes: &[u8], dim: Dimension, n: u32) -> Result<&[u8], Stop>
     skip_eights(bytes, n as usize * dim.width())
 }
 
+// `order` and `dim` stay two parameters below: a cursor keeps the dimension in its code, so a struct of both would be made at each call.
+
 // What follows a line or a ring.
 fn check_line(bytes: &[u8], order: Endian, dim: Dimension) -> Result<&[u8], Stop>
     ensures { Follows (line order dim) bytes.now result }
@@ -26,23 +28,15 @@ fn check_line(bytes: &[u8], order: Endian, dim: Dimension) -> Result<&[u8], Stop
     check_points(rest, dim, n)
 }
 
-// What follows n rings.
-fn check_rings(bytes: &[u8], order: Endian, dim: Dimension, n: u32) -> Result<&[u8], Stop>
-    ensures { Follows (times (line order dim) n) bytes.now result }
-{
-    let mut rest = bytes;
-    for ring in 0..n {
-        rest = check_line(rest, order, dim)?;
-    }
-    Ok(rest)
-}
-
 // What follows a polygon's count and rings.
 fn check_polygon(bytes: &[u8], order: Endian, dim: Dimension) -> Result<&[u8], Stop>
     ensures { Follows (counted order (times (line order dim))) bytes.now result }
 {
-    let (n, rest) = count(bytes, order)?;
-    check_rings(rest, order, dim, n)
+    let (n, mut rest) = count(bytes, order)?;
+    'rings: for _ in 0..n {
+        rest = check_line(rest, order, dim)?;
+    }
+    Ok(rest)
 }
 
 // What follows a whole shape that stands in this container, with so many levels left.
@@ -58,9 +52,8 @@ fn check_shape(bytes: &[u8], levels: u32, outer: Option<Code>) -> Result<&[u8], 
         Kind::Line => check_line(after, order, code.dim),
         Kind::Polygon => check_polygon(after, order, code.dim),
         _ => {
-            let (n, parts) = count(after, order)?;
-            let mut rest = parts;
-            for part in 0..n {
+            let (n, mut rest) = count(after, order)?;
+            'parts: for _ in 0..n {
                 rest = check_shape(rest, levels - 1, Some(code))?;
             }
             Ok(rest)

@@ -51,12 +51,12 @@ returns-in_err-n-in_default t c =
     (shape-fails c.args.levels c.args.outer c.args.bytes.now o d c.in_ok-order.after.now (counted o (times part)) h q.1 e _ (omega (arith, q.0))
     (counted-cut o (times part) c.in_ok-order.after.now _ z.0 z.1))
 
-pub loop-part-init : goal.loop-part-init
-loop-part-init t c = turned-none (shape (c.args.levels - 1) (Some c.in_ok-order.code)) c.in_ok-n-in_default.n c.in_ok-n-in_default.parts.now
+pub parts-init : goal.parts-init
+parts-init t c = turned-none (shape (c.args.levels - 1) (Some c.in_ok-order.code)) c.in_ok-n-in_default.n c.in_ok-n-in_default.rest.now
 
-pub loop-part-preserved : goal.loop-part-preserved
-loop-part-preserved t c =
-    turned-more (shape (c.args.levels - 1) (Some c.in_ok-order.code)) c.in_ok-n-in_default.n c.loop-part.part c.in_ok-n-in_default.parts.now c.loop-part.rest.now c.loop-part.invariant _ c.loop-part-test.true c.in_ok-rest-in_default.ensures
+pub parts-preserved : goal.parts-preserved
+parts-preserved t c =
+    turned-more (shape (c.args.levels - 1) (Some c.in_ok-order.code)) c.in_ok-n-in_default.n c.parts.counter c.in_ok-n-in_default.rest.now c.parts.rest.now c.parts.invariant _ c.parts-test.true c.in_ok-rest-in_default.ensures
 
 pub returns-in_err-rest-in_default : goal.returns-in_err-rest-in_default
 returns-in_err-rest-in_default t c =
@@ -69,11 +69,11 @@ returns-in_err-rest-in_default t c =
     let z = c.in_ok-n-in_default.ensures in
     err-stop _ _ _ _ c.from_residual-in_err-rest-in_default.ensures.1
     (shape-fails c.args.levels c.args.outer c.args.bytes.now o d c.in_ok-order.after.now (counted o (times part)) h q.1 e _ (omega (arith, q.0))
-    (counted-fails o (times part) c.in_ok-order.after.now c.in_ok-n-in_default.n c.in_ok-n-in_default.parts.now z.0 z.1 z.2 _
-    (turned-fails part c.in_ok-n-in_default.n c.loop-part.part c.in_ok-n-in_default.parts.now c.loop-part.rest.now c.loop-part.invariant _ c.loop-part-test.true c.in_err-rest-in_default.ensures)))
+    (counted-fails o (times part) c.in_ok-order.after.now c.in_ok-n-in_default.n c.in_ok-n-in_default.rest.now z.0 z.1 z.2 _
+    (turned-fails part c.in_ok-n-in_default.n c.parts.counter c.in_ok-n-in_default.rest.now c.parts.rest.now c.parts.invariant _ c.parts-test.true c.in_err-rest-in_default.ensures)))
 
-pub returns-after-loop-part : goal.returns-after-loop-part
-returns-after-loop-part t c =
+pub returns-after-parts : goal.returns-after-parts
+returns-after-parts t c =
     let h : 0 < c.args.levels = omega arith in
     let q = c.in_ok-order.ensures in
     let o = c.in_ok-order.order in
@@ -81,8 +81,8 @@ returns-after-loop-part t c =
     let part = shape (c.args.levels - 1) (Some d) in
     let e = body-container o d.dim part d.kind c.in_default.not-Point c.in_default.not-Line c.in_default.not-Polygon in
     let z = c.in_ok-n-in_default.ensures in
-    let a = turned-all part c.in_ok-n-in_default.n c.loop-part.part c.in_ok-n-in_default.parts.now c.loop-part.rest.now c.loop-part.invariant c.loop-part-test.false in (
+    let a = turned-all part c.in_ok-n-in_default.n c.parts.counter c.in_ok-n-in_default.rest.now c.parts.rest.now c.parts.invariant c.parts-test.false in (
       omega (arith, a.0, q.0, ap length z.2, length-drop 4 c.in_ok-order.after.now),
-      shape-passes c.args.levels c.args.outer c.args.bytes.now o d c.in_ok-order.after.now (counted o (times part)) h q.1 e c.loop-part.rest.now
-          (counted-passes o (times part) c.in_ok-order.after.now c.in_ok-n-in_default.n c.in_ok-n-in_default.parts.now z.0 z.1 z.2 _ a.1),
+      shape-passes c.args.levels c.args.outer c.args.bytes.now o d c.in_ok-order.after.now (counted o (times part)) h q.1 e c.parts.rest.now
+          (counted-passes o (times part) c.in_ok-order.after.now c.in_ok-n-in_default.n c.in_ok-n-in_default.rest.now z.0 z.1 z.2 _ a.1),
     )

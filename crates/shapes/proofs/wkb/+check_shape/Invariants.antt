@@ -6,5 +6,5 @@ use Rattle.shapes.proofs.wkb.+check_shape.Given as goal
 abbrev pub decreases-check_shape : goal.decreases-check_shape
 decreases-check_shape l = l.levels
 
-abbrev pub invariant-loop-part : goal.invariant-loop-part
-invariant-loop-part l = Turned (shape (l.levels - 1) (Some l.code)) l.n l.part l.initial.rest l.rest
+abbrev pub invariant-parts : goal.invariant-parts
+invariant-parts l = Turned (shape (l.levels - 1) (Some l.code)) l.n l.counter l.initial.rest l.rest

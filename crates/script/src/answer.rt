@@ -47,7 +47,7 @@ impl Answer {
 
 impl fmt::Display for Shape {
     fn fmt<W: fmt::Write>(&self, f: &mut fmt::Formatter<W>) -> fmt::Result {
-        let code = self.code.number();
+        let code = u32::from(self.code);
         write!(f, "code {code}")?;
         for coord in self.coords.iter() {
             let Coord { x, y, z, m, joins } = *coord;

@@ -1,8 +1,8 @@
 -- What is read was written.
-use Rattle.std.proofs.Common.{◌≡◌, ℕ, zero, suc, ◌+◌, ◌^◌, ◌<◌, ◌≤◌, Bool, true, false, eqb, List, [], ◌∷◌, ◌++◌, length, get_or, drop, Some, None, Option, sym, refl, ap, ◌∙◌, subst, append_assoc, append-nil, arith}
+use Rattle.std.proofs.Common.{◌≡◌, ℕ, zero, suc, ◌+◌, ◌^◌, ◌<◌, ◌≤◌, Bool, true, false, eqb, List, [], ◌∷◌, ◌++◌, length, get_or, drop, Some, None, Option, sym, refl, ap, ◌∙◌, subst, append_assoc, append-nil, arith, Fits, w8}
 use Rattle.std.proofs.lemmas.Bool.{and_parts, eqb-true}
 use Rattle.std.proofs.lemmas.Bool.Decides.{nat_tests}
-use Rattle.std.proofs.ByRecursion.{All-drop}
+use Rattle.std.proofs.ByRecursion.{All-drop, All-from_get_or}
 use Rattle.std.specs.List.{AllByRecursion}
 use Rattle.shapes.specs.declared.endian.Endian.{Endian}
 use Rattle.shapes.specs.declared.code.Dimension.{Dimension}
@@ -232,9 +232,9 @@ read-was_written b c cs hb h =
     let both : read (code d tr) (coords d tr) ≡ read c cs = sym (written-is_read d tr well) ∙ ap decode same ∙ h in
     record { dim = d; tree = tr; well_formed = well; writes = same; has_code = read-code both; has_coords = read-coords both }
 
-pub read-exactly : (b : List ℕ) → Bytes b → ReadExactly b
-read-exactly b hb = record {
-  read_was_written = λ c cs h. read-was_written b c cs hb h;
+pub read-exactly : (b : List ℕ) → ((i : ℕ) → Fits w8 (get_or b i 0)) → ReadExactly b
+read-exactly b h8 = record {
+  read_was_written = λ c cs h. read-was_written b c cs (All-from_get_or (λ n. n < 256) b 0 (λ i _. omega (arith, h8 i))) h;
   written_is_read = λ c cs w.
       sym (ap decode w.writes) ∙ written-is_read w.dim w.tree w.well_formed
       ∙ ap (λ (x : Code). read x (coords w.dim w.tree)) w.has_code ∙ ap (read c) w.has_coords;

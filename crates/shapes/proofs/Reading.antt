@@ -1,22 +1,23 @@
 -- Laws of the readers.
-use Rattle.std.proofs.Common.{◌≡◌, ℕ, zero, suc, ◌+◌, ◌-◌, ◌*◌, ◌%◌, ◌<◌, ◌≤◌, Bool, true, false, ◌≢◌, List, [], ◌∷◌, length, get_or, drop, Some, None, Option, Result, sym, refl, ap, ◌∙◌, inl, inr, suc-mul, zero-mul, arith, length-drop, get_or-drop, drop-drop, Bor, ne_eqb, le-leb, MatchResult}
-use Rattle.std.proofs.lemmas.Result.{MatchResult-weaker}
-use Rattle.std.proofs.lemmas.Bool.{cases_lt, cases_eq}
+use Rattle.std.proofs.Common.{◌≡◌, ℕ, zero, suc, ◌+◌, ◌-◌, ◌*◌, ◌%◌, ◌<◌, ◌≤◌, Bool, true, false, List, [], ◌∷◌, length, get_or, drop, Some, None, Option, Result, sym, refl, ap, ◌∙◌, inl, inr, suc-mul, zero-mul, arith, length-drop, get_or-drop, drop-drop, Bor, le-leb, MatchResult}
+use Rattle.std.specs.Result.{IsErrAnd}
+use Rattle.std.proofs.lemmas.Result.{MatchResult-weaker, err_from_is_err_and}
+use native.Mathlib.Nat.{sub-zero}
+use Rattle.std.proofs.lemmas.Bool.{cases_lt}
 use borrow.Author.Tests.{lt-leb}
 use Rattle.shapes.specs.declared.endian.Endian.{Endian}
 use Rattle.shapes.specs.declared.endian.Endian.TheVariants.{Big, Little}
 use Rattle.shapes.specs.declared.code.Dimension.{Dimension}
 use Rattle.shapes.specs.declared.code.Code.{Code}
 use Rattle.shapes.specs.declared.coord.Coord.{Coord}
+use Rattle.shapes.specs.declared.stop.Stop.{Stop}
 use Rattle.shapes.specs.declared.code.Kind.{Kind}
 use Rattle.shapes.specs.declared.code.Kind.TheVariants.{Point, Line, Polygon, MultiPoint, MultiLine, MultiPolygon, Collection}
 use Rattle.interval.specs.declared.fault.Cause.{Cause}
 use Rattle.interval.specs.declared.fault.Cause.TheVariants.{Truncated, ByteOrder, TypeCode, PartType, TooDeep, TrailingBytes}
-use Rattle.interval.specs.declared.fault.Fault.{Fault}
-use Rattle.interval.specs.Faults.{at}
 use Rattle.shapes.specs.Codes.{width, code_of, fits}
 use Rattle.shapes.specs.Numbers.{u32_at, coord_at, order_of}
-use Rattle.shapes.specs.Wkb.{Reader, Run, run_of, Ending, stop, ended, whole, fault, give, eights, coord, points, line, times, counted, header, body, shape, placed, Passes, Fails, Headed, Unheaded, Follows, PointsFollow, code_at, code_in, code_or, coords_in, decode, decoded, refused, read, finish, levels}
+use Rattle.shapes.specs.Wkb.{Reader, Run, run_of, Ending, stop, ended, whole, fault, give, eights, coord, points, line, times, counted, header, body, shape, placed, before, Passes, Fails, Headed, Unheaded, Follows, PointsFollow, code_at, code_in, code_or, coords_in, decode, decoded, refused, read, finish, levels}
 
 pub u32_list : (o : Endian) (b : List ℕ) → u32_at o (get_or b 0 0 ∷ get_or b 1 0 ∷ get_or b 2 0 ∷ get_or b 3 0 ∷ []) ≡ u32_at o b
 u32_list Big b = refl
@@ -85,18 +86,25 @@ points-cut o d j (suc n) k b h =
           ∙ ap (stop Truncated) e
     ]
 
+-- the exit of a `?` with s
+pub err-stop : {A : Type 0} (P : A → Type 0) (Q : Stop → Type 0) (x : Result A Stop) (s : Stop) → IsErrAnd x (λ y. y ≡ s) → Q s → MatchResult x P Q
+err-stop P Q x s e q = let p = err_from_is_err_and x e in rw (p.1, p.2) q
+
 -- n coordinates, by the answer of a skip of m ordinates
-pub points-follow : (t : ℕ) (d : Dimension) (n m : ℕ) (b : List ℕ) (x : Result (Bor (List ℕ)) Fault) → m ≡ n * width d →
-    MatchResult x (λ rest. (8 * m ≤ length b) × (rest.now ≡ drop (8 * m) b)) (λ f. (length b < 8 * m) × (f ≡ placed t Truncated (length b % 8))) → PointsFollow t d n b x
-points-follow t d n m b x e w o j =
+pub points-follow : (d : Dimension) (n m : ℕ) (b : List ℕ) (x : Result (Bor (List ℕ)) Stop) → m ≡ n * width d →
+    MatchResult x (λ rest. (8 * m ≤ length b) × (rest.now ≡ drop (8 * m) b)) (λ s. (length b < 8 * m) × (s ≡ record { cause = Truncated; left = length b % 8 })) → PointsFollow d n b x
+points-follow d n m b x e w o j =
     MatchResult-weaker x w
     (λ rest p.
     let len : length rest.now ≤ length b = omega (arith, ap length p.1, length-drop (8 * m) b) in
     let h : 8 * (n * width d) ≤ length b = omega (arith, ap (λ i. 8 * i) e, p.0) in
     (len, λ k. points-fit o d j n k b h ∙ ap (λ c. (k c).ending) (ap (λ i. drop (8 * i) b) (sym e) ∙ sym p.1)))
-    (λ f p.
+    (λ s p.
     let h : length b < 8 * (n * width d) = omega (arith, ap (λ i. 8 * i) e, p.0) in
-    record { cause = Truncated; left = length b % 8; place = p.1; stops = λ k. points-cut o d j n k b h })
+    record {
+      within = omega (arith, ap (λ (z : Stop). z.left) p.1);
+      stops = λ k. points-cut o d j n k b h ∙ ap (λ (z : Stop). stop z.cause z.left) (sym p.1);
+    })
 
 module _ (o : Endian) (r : ℕ → Reader → Reader) (b : List ℕ) where
   pub counted-there : (n : ℕ) (b' : List ℕ) (k : Reader) → 4 ≤ length b → n ≡ u32_at o b → b' ≡ drop 4 b → counted o r k b ≡ r n k b'
@@ -108,18 +116,26 @@ module _ (o : Endian) (r : ℕ → Reader → Reader) (b : List ℕ) where
     pub counted-passes : (rest : List ℕ) → Passes (r n) b' rest → Passes (counted o r) b rest
     counted-passes rest p k = ap (λ u. u.ending) (counted-there n b' k h e e') ∙ p k
 
-    pub counted-fails : (t : ℕ) (f : Fault) → Fails t (r n) b' f → Fails t (counted o r) b f
-    counted-fails t f p = record { cause = p.cause; left = p.left; place = p.place; stops = λ k. ap (λ u. u.ending) (counted-there n b' k h e e') ∙ p.stops k }
+    pub counted-fails : (s : Stop) → Fails (r n) b' s → Fails (counted o r) b s
+    counted-fails s p =
+        record {
+          within = omega (arith, p.within, ap length e', length-drop 4 b);
+          stops = λ k. ap (λ u. u.ending) (counted-there n b' k h e e') ∙ p.stops k;
+        }
 
-    pub counted-follow : (t : ℕ) (x : Result (Bor (List ℕ)) Fault) → Follows t (r n) b' x → Follows t (counted o r) b x
-    counted-follow t x w =
+    pub counted-follow : (x : Result (Bor (List ℕ)) Stop) → Follows (r n) b' x → Follows (counted o r) b x
+    counted-follow x w =
         MatchResult-weaker x w
         (λ rest p. (omega (arith, ap length e', length-drop 4 b, p.0), counted-passes rest.now p.1))
-        (λ f p. counted-fails t f p)
+        (λ s p. counted-fails s p)
 
-  pub counted-cut : (t : ℕ) (f : Fault) → length b < 4 → f ≡ placed t Truncated (length b) → Fails t (counted o r) b f
+  pub counted-cut : (s : Stop) → length b < 4 → s ≡ before Truncated b → Fails (counted o r) b s
   unfolding counted
-  counted-cut t f h e = record { cause = Truncated; left = length b; place = e; stops = λ k. ap (λ u. u.ending) (whole-not 4 (λ c. r (u32_at o c) k (drop 4 c)) b h) }
+  counted-cut s h e =
+      record {
+        within = omega (arith, ap (λ (z : Stop). z.left) e);
+        stops = λ k. ap (λ u. u.ending) (whole-not 4 (λ c. r (u32_at o c) k (drop 4 c)) b h) ∙ ap (λ (z : Stop). stop z.cause z.left) (sym e);
+      }
 
 -- ---- a loop of n turns that reads by r, at turn i
 
@@ -131,15 +147,31 @@ pub times_none : (r : Reader → Reader) (n i : ℕ) (k : Reader) (b : List ℕ)
 unfolding times
 times_none r n i k b h = let e : n - i ≡ 0 = omega arith in ap (λ m. times r m k b) e
 
-module _ (r : Reader → Reader) (n i : ℕ) (b rest : List ℕ) (inv : (k : Reader) → (times r (n - i) k rest).ending ≡ (times r n k b).ending) where
-  pub turn_passes : (rest' : List ℕ) → i < n → Passes r rest rest' → (k : Reader) → (times r (n - (i + 1)) k rest').ending ≡ (times r n k b).ending
-  turn_passes rest' h p k = sym (p (times r (n - (i + 1)) k)) ∙ sym (ap (λ u. u.ending) (times-step r n i k rest h)) ∙ inv k
+-- such a loop over b stands at turn i with rest
+pub record Turned (r : Reader → Reader) (n i : ℕ) (b rest : List ℕ) : Type 0 where
+  pub shorter : length rest ≤ length b
+  pub same : (k : Reader) → (times r (n - i) k rest).ending ≡ (times r n k b).ending
 
-  pub turn_fails : (t : ℕ) (f : Fault) → i < n → Fails t r rest f → Fails t (times r n) b f
-  turn_fails t f h p = record { cause = p.cause; left = p.left; place = p.place; stops = λ k. sym (inv k) ∙ ap (λ u. u.ending) (times-step r n i k rest h) ∙ p.stops (times r (n - (i + 1)) k) }
+pub turned-none : (r : Reader → Reader) (n : ℕ) (b : List ℕ) → Turned r n 0 b b
+turned-none r n b = record { shorter = omega arith; same = λ k. ap (λ m. (times r m k b).ending) (sub-zero n) }
 
-  pub turns_pass : n ≤ i → Passes (times r n) b rest
-  turns_pass h k = sym (inv k) ∙ ap (λ u. u.ending) (times_none r n i k rest h)
+module _ (r : Reader → Reader) (n i : ℕ) (b rest : List ℕ) (t : Turned r n i b rest) where
+  pub turned-more : (rest' : List ℕ) → i < n → (length rest' ≤ length rest) × Passes r rest rest' → Turned r n (i + 1) b rest'
+  turned-more rest' h p =
+      record {
+        shorter = omega (arith, p.0, t.shorter);
+        same = λ k. sym (p.1 (times r (n - (i + 1)) k)) ∙ sym (ap (λ u. u.ending) (times-step r n i k rest h)) ∙ t.same k;
+      }
+
+  pub turned-fails : (s : Stop) → i < n → Fails r rest s → Fails (times r n) b s
+  turned-fails s h p =
+      record {
+        within = omega (arith, p.within, t.shorter);
+        stops = λ k. sym (t.same k) ∙ ap (λ u. u.ending) (times-step r n i k rest h) ∙ p.stops (times r (n - (i + 1)) k);
+      }
+
+  pub turned-all : n ≤ i → (length rest ≤ length b) × Passes (times r n) b rest
+  turned-all h = (t.shorter, λ k. sym (t.same k) ∙ ap (λ u. u.ending) (times_none r n i k rest h))
 
 -- ---- headers
 
@@ -173,20 +205,13 @@ module _ (outer : Option Code) (b : List ℕ) (f : Endian → Code → Reader) w
     unfolding header
     header-there c h5 e2 e3 = let h4 : 4 ≤ length (drop 1 b) = simp length-drop (omega arith) in rw (le-leb 1 (length b) h, e, le-leb 4 (length (drop 1 b)) h4, e2, e3)
 
--- a header that stops at its first byte, and one that stops at its second
-pub stops_first : (t : ℕ) (outer : Option Code) (b : List ℕ) (f : Fault) (e : Cause) → f ≡ at e (t - length b) → ((g : Endian → Code → Reader) → header outer g b ≡ fault e b) → Unheaded t outer b f
-stops_first t outer b f e p s = record { cause = e; left = length b; place = p; stops = s }
-
-pub stops_second : (t : ℕ) (outer : Option Code) (b : List ℕ) (f : Fault) (e : Cause) → 1 ≤ length b → length b ≤ t → f ≡ at e (t - length b + 1) → ((g : Endian → Code → Reader) → header outer g b ≡ fault e (drop 1 b)) → Unheaded t outer b f
-stops_second t outer b f e h h' p s =
-    let q : t - length b + 1 ≡ t - length (drop 1 b) = simp length-drop (omega arith) in
-    record { cause = e; left = length (drop 1 b); place = p ∙ ap (at e) q; stops = s }
-
-pub order_some : (n : ℕ) → n < 2 → (o : Endian) × (order_of n ≡ Some o)
-order_some n h = elim (cases_eq n 0) [ inl e ↦ (Big, rw e) | inr ne ↦ let e : n ≡ 1 = omega arith in (Little, rw e) ]
-
-pub order_none : (n : ℕ) → 2 ≤ n → order_of n ≡ None
-order_none n h = let a : n ≢ 0 = omega arith in let b : n ≢ 1 = omega arith in rw (ne_eqb n 0 a, ne_eqb n 1 b)
+-- a header that stops before b', the last bytes of b
+pub stops_before : (outer : Option Code) (b b' : List ℕ) (s : Stop) (e : Cause) → length b' ≤ length b → s ≡ before e b' → ((g : Endian → Code → Reader) → header outer g b ≡ fault e b') → Unheaded outer b s
+stops_before outer b b' s e le p h =
+    record {
+      within = omega (arith, ap (λ (z : Stop). z.left) p);
+      stops = λ g. h g ∙ ap (λ (z : Stop). record { coords = []; ending = stop z.cause z.left }) (sym p);
+    }
 
 -- ---- shapes
 
@@ -213,16 +238,20 @@ unfolding body
 body-polygon o d part q e = ap (body o d part) e
 
 module _ (l : ℕ) (outer : Option Code) (b : List ℕ) where
-  pub shape-deep : (t : ℕ) (f : Fault) → l ≡ 0 → f ≡ placed t TooDeep (length b) → Fails t (shape l outer) b f
+  pub shape-deep : (s : Stop) → l ≡ 0 → s ≡ before TooDeep b → Fails (shape l outer) b s
   unfolding shape
-  shape-deep t f e p = record { cause = TooDeep; left = length b; place = p; stops = λ k. ap (λ i. (shape i outer k b).ending) e }
+  shape-deep s e p =
+      record {
+        within = omega (arith, ap (λ (z : Stop). z.left) p);
+        stops = λ k. ap (λ i. (shape i outer k b).ending) e ∙ ap (λ (z : Stop). stop z.cause z.left) (sym p);
+      }
 
   pub shape-header : 0 < l → (k : Reader) → shape l outer k b ≡ header outer (λ o c. body o c.dim (shape (l - 1) (Some c)) c.kind k) b
   unfolding shape
   shape-header h k = let e : l ≡ suc (l - 1) = omega arith in ap (λ i. shape i outer k b) e
 
-  pub shape-unheaded : (t : ℕ) (f : Fault) → 0 < l → Unheaded t outer b f → Fails t (shape l outer) b f
-  shape-unheaded t f h u = record { cause = u.cause; left = u.left; place = u.place; stops = λ k. ap (λ r. r.ending) (shape-header h k ∙ u.stops (λ o c. body o c.dim (shape (l - 1) (Some c)) c.kind k)) }
+  pub shape-unheaded : (s : Stop) → 0 < l → Unheaded outer b s → Fails (shape l outer) b s
+  shape-unheaded s h u = record { within = u.within; stops = λ k. ap (λ r. r.ending) (shape-header h k ∙ u.stops (λ o c. body o c.dim (shape (l - 1) (Some c)) c.kind k)) }
 
   module _ (o : Endian) (c : Code) (after : List ℕ) (r : Reader → Reader) (h : 0 < l) (u : Headed outer b o c after) (e : body o c.dim (shape (l - 1) (Some c)) c.kind ≡ r) where
     pub shape_is : (k : Reader) → shape l outer k b ≡ r k after
@@ -231,14 +260,14 @@ module _ (l : ℕ) (outer : Option Code) (b : List ℕ) where
     pub shape-passes : (rest : List ℕ) → Passes r after rest → Passes (shape l outer) b rest
     shape-passes rest p k = ap (λ r. r.ending) (shape_is k) ∙ p k
 
-    pub shape-fails : (t : ℕ) (f : Fault) → Fails t r after f → Fails t (shape l outer) b f
-    shape-fails t f p = record { cause = p.cause; left = p.left; place = p.place; stops = λ k. ap (λ r. r.ending) (shape_is k) ∙ p.stops k }
+    pub shape-fails : (s : Stop) → length after ≤ length b → Fails r after s → Fails (shape l outer) b s
+    shape-fails s le p = record { within = omega (arith, p.within); stops = λ k. ap (λ r. r.ending) (shape_is k) ∙ p.stops k }
 
-    pub shape-follow : (t : ℕ) (x : Result (Bor (List ℕ)) Fault) → length after ≤ length b → Follows t r after x → Follows t (shape l outer) b x
-    shape-follow t x le w =
+    pub shape-follow : (x : Result (Bor (List ℕ)) Stop) → length after ≤ length b → Follows r after x → Follows (shape l outer) b x
+    shape-follow x le w =
         MatchResult-weaker x w
         (λ rest p. (omega (arith, p.0), shape-passes rest.now p.1))
-        (λ f p. shape-fails t f p)
+        (λ s p. shape-fails s le p)
 
 -- ---- decoding
 
@@ -246,8 +275,8 @@ pub code-at : (b : List ℕ) (o : Endian) (c : Code) → order_of (get_or b 0 0)
 code-at b o c e e2 = sym (ap (λ x. code_in x b) e ∙ ap code_or e2)
 
 module _ (b : List ℕ) where
-  pub decode-fails : (f : Fault) → Fails (length b) (shape levels None) b f → decode b ≡ refused f
-  decode-fails f p = ap (λ e. decoded (length b) e (code_at b) (coords_in b)) (p.stops finish) ∙ ap refused (sym p.place)
+  pub decode-fails : (s : Stop) → Fails (shape levels None) b s → decode b ≡ refused (placed (length b) s.cause s.left)
+  decode-fails s p = ap (λ e. decoded (length b) e (code_at b) (coords_in b)) (p.stops finish)
 
   ended-trails : (t : ℕ) (c : Code) (cs : List Coord) (rest : List ℕ) → 0 < length rest → decoded t (ended rest) c cs ≡ refused (placed t TrailingBytes (length rest))
   ended-trails t c cs [] h = absurd (omega arith)
@@ -257,8 +286,8 @@ module _ (b : List ℕ) where
   ended-read t c cs [] h = refl
   ended-read t c cs (x ∷ xs) h = absurd (omega arith)
 
-  pub decode-trails : (rest : List ℕ) (f : Fault) → Passes (shape levels None) b rest → 0 < length rest → f ≡ placed (length b) TrailingBytes (length rest) → decode b ≡ refused f
-  decode-trails rest f p h e = ap (λ e. decoded (length b) e (code_at b) (coords_in b)) (p finish) ∙ ended-trails (length b) (code_at b) (coords_in b) rest h ∙ ap refused (sym e)
+  pub decode-trails : (rest : List ℕ) → Passes (shape levels None) b rest → 0 < length rest → decode b ≡ refused (placed (length b) TrailingBytes (length rest))
+  decode-trails rest p h = ap (λ e. decoded (length b) e (code_at b) (coords_in b)) (p finish) ∙ ended-trails (length b) (code_at b) (coords_in b) rest h
 
   pub decode-read : (rest : List ℕ) → Passes (shape levels None) b rest → length rest ≡ 0 → decode b ≡ read (code_at b) (coords_in b)
   decode-read rest p h = ap (λ e. decoded (length b) e (code_at b) (coords_in b)) (p finish) ∙ ended-read (length b) (code_at b) (coords_in b) rest h

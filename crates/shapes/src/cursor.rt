@@ -37,7 +37,7 @@ impl<'a> Cursor<'a> {
             depth: 0,
             counts: [0; 33],
         };
-        let Ok((order, code, after)) = header(bytes, bytes.len(), None) else {
+        let Ok((order, code, after)) = header(bytes, None) else {
             return s;
         };
         s.code = code;
@@ -51,7 +51,7 @@ impl<'a> Cursor<'a> {
         requires points { slice_index self.old.counts 32 ≡ 0 }
         ensures { MatchOption result (still self.old ≡ []) (λ _. Moves self.old self.new) }
     {
-        let (n, rest) = count(self.rest, self.rest.len(), self.order).ok()?;
+        let (n, rest) = count(self.rest, self.order).ok()?;
         self.rest = rest;
         self.counts[RINGS] -= 1;
         self.counts[POINTS] = n;
@@ -72,7 +72,7 @@ impl<'a> Cursor<'a> {
             self.counts[POINTS] = 1;
             return Some(());
         }
-        let (n, rest) = count(after, after.len(), order).ok()?;
+        let (n, rest) = count(after, order).ok()?;
         match kind {
             Kind::Point | Kind::Line => {
                 self.rest = rest;
@@ -113,7 +113,7 @@ impl<'a> Cursor<'a> {
             kind: self.inner,
             dim: self.code.dim,
         };
-        let (order, code, after) = header(self.rest, self.rest.len(), Some(outer)).ok()?;
+        let (order, code, after) = header(self.rest, Some(outer)).ok()?;
         self.counts[self.depth - 1] -= 1;
         self.enter(order, code.kind, after)
     }

@@ -11,6 +11,7 @@ mod hulls;
 mod source;
 mod span;
 mod state;
+mod stop;
 mod swapped;
 mod table;
 mod wkb;

@@ -17,10 +17,7 @@ impl<S: ShapeSource> ShapeSource for Swapped<S> {
     ghost room = { λ s. S.ShapeSource.room s.inner };
 
     fn next(&mut self) -> Option<Coord> {
-        match self.inner.next() {
-            Some(c) => Some(c.exchanged()),
-            None => None,
-        }
+        self.inner.next().map(Coord::exchanged)
     }
 
     fn code(&self) -> Code {

@@ -35,7 +35,7 @@ mod tests {
         match check(&b[0..288]) {
             Ok(checked) => {
                 let mut s = Cursor::new(checked);
-                assert_eq!(rt; s.code().number(), 7);
+                assert_eq!(rt; u32::from(s.code()), 7);
                 assert_eq!(rt; s.next().is_none(), true);
                 Ok(())
             }

@@ -29,4 +29,4 @@ returns-in_err-order c =
     let s = c.args.self.now in
     let q = lost c.header.result _ _ (sym c.ok.ensures.value ∙ c.in_err-order.was) c.header.ensures in
     rw c.from_residual.ensures (ap (λ r. r.coords) (pending-parts s.order s.code.dim s.joins s.inner s.counts s.depth s.rest.now c.requires.between.rings c.requires.between.points)
-    ∙ part_unheaded s.code.dim s.inner s.counts s.depth s.rest.now c.requires.deep s.shallow c.requires.more _ _ q.1)
+    ∙ part_unheaded s.code.dim s.inner s.counts s.depth s.rest.now c.requires.deep s.shallow c.requires.more _ q.1)

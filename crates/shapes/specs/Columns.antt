@@ -1,5 +1,5 @@
 -- The coordinates of a line's bytes, and their ordinates by columns.
-use Rattle.std.specs.Prelude.{ℕ, zero, suc, ◌*◌, Bool, true, false, List, [], ◌∷◌, drop, from_bits}
+use Rattle.std.specs.Prelude.{ℕ, zero, suc, ◌*◌, Bool, true, List, [], ◌∷◌, drop, from_bits}
 use Rattle.std.specs.Float.{binary64}
 use Rattle.std.specs.List.{fold}
 use Rattle.interval.specs.Pairs.{Pair, pair, nothing}
@@ -7,7 +7,6 @@ use Rattle.interval.specs.Ordinary.{with_value}
 use Rattle.shapes.specs.declared.code.Dimension.{Dimension}
 use Rattle.shapes.specs.declared.coord.Coord.{Coord}
 use Rattle.shapes.specs.declared.endian.Endian.{Endian}
-use Rattle.shapes.specs.declared.endian.Endian.TheVariants.{Big, Little}
 use Rattle.shapes.specs.declared.span.Span.{Span}
 use Rattle.shapes.specs.Codes.{width}
 use Rattle.shapes.specs.Numbers.{u64_at, f64_at, coord_at}
@@ -23,10 +22,6 @@ column o at size zero b e = e
 column o at size (suc n) b e = column o at size n (drop size b) (with_value e (f64_at o (drop at b)))
 
 -- ---- the program's values
-
-abbrev pub order_in : Bool → Endian
-order_in true = Big
-order_in false = Little
 
 abbrev pub spanned : Span → Pair
 spanned s = pair s.lo s.hi

@@ -4,7 +4,7 @@ ghost use Rattle.std.specs.List.{fold};
 ghost use Rattle.std.specs.Simd.{first_chunks};
 ghost use Rattle.interval.specs.Pairs.{ends, nothing};
 ghost use Rattle.shapes.specs.Codes.{width};
-ghost use Rattle.shapes.specs.Columns.{column_of, order_in, spanned, with_bits, column, run};
+ghost use Rattle.shapes.specs.Columns.{column_of, spanned, with_bits, column, run};
 ghost use Rattle.shapes.specs.Hulls.{four, none, with_all};
 ghost use Rattle.shapes.specs.Numbers.{u64_at};
 
@@ -15,29 +15,24 @@ use crate::span::Span;
 use interval::Interval;
 
 // The bits of the ordinate that stands there in a point.
-fn bits_at<const BIG: bool>(point: &[u8], at: usize) -> u64
+fn bits_at(point: &[u8], at: usize, order: Endian) -> u64
     requires { at + 8 ≤ length point.now }
-    ensures { result ≡ u64_at (order_in BIG) (drop at point.now) }
+    ensures { result ≡ u64_at order (drop at point.now) }
 {
-    let field: [u8; 8] = point[at..at + 8].try_into().unwrap();
-    if BIG {
-        u64::from_be_bytes(field)
-    } else {
-        u64::from_le_bytes(field)
-    }
+    order.read_u64(point[at..at + 8].try_into().unwrap())
 }
 
 // The bits of the ordinates that stand there in four points.
-fn ordinates<const SIZE: usize, const BIG: bool>(four: &[[u8; SIZE]; 4], at: usize) -> [u64; 4]
+fn ordinates<const SIZE: usize>(four: &[[u8; SIZE]; 4], at: usize, order: Endian) -> [u64; 4]
     requires { at + 8 ≤ SIZE }
-    ensures { result ≡ map (λ p. u64_at (order_in BIG) (drop at p)) four.now }
+    ensures { result ≡ map (λ p. u64_at order (drop at p)) four.now }
 {
     let [p, q, r, s] = four;
     [
-        bits_at::<BIG>(p, at),
-        bits_at::<BIG>(q, at),
-        bits_at::<BIG>(r, at),
-        bits_at::<BIG>(s, at),
+        bits_at(p, at, order),
+        bits_at(q, at, order),
+        bits_at(r, at, order),
+        bits_at(s, at, order),
     ]
 }
 
@@ -112,34 +107,36 @@ fn block(a: Span, b: Span, x: [u64; 4], y: [u64; 4]) -> (Span, Span)
 }
 
 // The spans of two columns of points, the first of which stands `at` bytes in.
-fn scan<const SIZE: usize, const BIG: bool>(points: &[[u8; SIZE]], at: usize) -> (Span, Span)
+#[inline(always)]
+fn scan<const SIZE: usize>(points: &[[u8; SIZE]], at: usize, order: Endian) -> (Span, Span)
     requires side { at + 16 ≤ SIZE }
     requires small { SIZE ≤ 32 }
-    ensures { (spanned result.0 ≡ column_of (order_in BIG) at points.now) × (spanned result.1 ≡ column_of (order_in BIG) (at + 8) points.now) }
+    ensures { (spanned result.0 ≡ column_of order at points.now) × (spanned result.1 ≡ column_of order (at + 8) points.now) }
 {
     let (fours, ones) = points.as_chunks::<4>();
     let mut a = Span::empty();
     let mut b = Span::empty();
     for four in fours {
-        let x = ordinates::<SIZE, BIG>(four, at);
-        let y = ordinates::<SIZE, BIG>(four, at + 8);
+        let x = ordinates(four, at, order);
+        let y = ordinates(four, at + 8, order);
         (a, b) = block(a, b, x, y);
     }
     for p in ones {
-        a = a.with(bits_at::<BIG>(p, at));
-        b = b.with(bits_at::<BIG>(p, at + 8));
+        a = a.with(bits_at(p, at, order));
+        b = b.with(bits_at(p, at + 8, order));
     }
     (a, b)
 }
 
+// The same, with a scan compiled for each byte order.
 fn pair<const SIZE: usize>(points: &[[u8; SIZE]], at: usize, order: Endian) -> (Span, Span)
     requires side { at + 16 ≤ SIZE }
     requires small { SIZE ≤ 32 }
     ensures { (spanned result.0 ≡ column_of order at points.now) × (spanned result.1 ≡ column_of order (at + 8) points.now) }
 {
     match order {
-        Endian::Big => scan::<SIZE, true>(points, at),
-        Endian::Little => scan::<SIZE, false>(points, at),
+        Endian::Big => scan(points, at, Endian::Big),
+        Endian::Little => scan(points, at, Endian::Little),
     }
 }
 

@@ -1,14 +1,13 @@
 use Rattle.std.proofs.Common.{◌≡◌, ◌+◌, ◌*◌, ◌/◌, ◌<◌, length, get_or, drop, take, ap, ◌∙◌, arith, mul_comm}
 use Rattle.std.proofs.lemmas.List.{get_or-drop}
 use Rattle.std.specs.Simd.{first_chunks}
-use Rattle.shapes.specs.Columns.{column_of, order_in, spanned}
+use Rattle.shapes.specs.Columns.{column_of, spanned}
 use Rattle.shapes.proofs.Spans.{four_more, one_more}
-use Rattle.shapes.proofs.columns.scan.Invariants.{flag}
 use Rattle.shapes.proofs.columns.scan.Goals as goal
 
 pub loop-four-preserved : goal.loop-four-preserved
 loop-four-preserved g c =
-    let o = order_in (flag g.row.BIG) in
+    let o = c.args.order in
     let ps = c.args.points.now in
     let i = c.loop-four.four-index in
     let h : i < length ps / 4 = omega (arith, c.as_chunks.ensures.front_len, c.loop-four-test.true) in
@@ -20,7 +19,7 @@ loop-four-preserved g c =
 
 pub loop-p-preserved : goal.loop-p-preserved
 loop-p-preserved g c =
-    let o = order_in (flag g.row.BIG) in
+    let o = c.args.order in
     let ps = c.args.points.now in
     let m = 4 * (length ps / 4) in
     let i = c.loop-p.p-index in

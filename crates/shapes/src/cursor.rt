@@ -65,14 +65,10 @@ impl<'a> Cursor<'a> {
         requires fitting { 0 < self.old.depth → takes self.old.inner kind ≡ true }
         ensures { MatchOption result ((entered self.old order kind after.now ≡ []) × (shape_of self.new ≡ shape_of self.old)) (λ _. Enters self.old self.new order kind after.now) }
     {
-        if let Kind::Point = kind {
-            self.rest = after;
-            self.order = order;
-            self.joins = false;
-            self.counts[POINTS] = 1;
-            return Some(());
-        }
-        let (n, rest) = count(after, order).ok()?;
+        let (n, rest) = match kind {
+            Kind::Point => (1, after), // a point has no count
+            _ => count(after, order).ok()?,
+        };
         match kind {
             Kind::Point | Kind::Line => {
                 self.rest = rest;
@@ -98,7 +94,7 @@ impl<'a> Cursor<'a> {
                 self.inner = kind;
                 Some(())
             }
-            _ => None,
+            _ => None, // too deep
         }
     }
 

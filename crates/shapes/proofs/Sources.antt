@@ -38,3 +38,5 @@ on-axes_lacks Xyzm c = tt
 pub table_lacks : (d : Dimension) (cs : List Coord) → AllByRecursion (Lacks d) (map (on_axes d) cs)
 table_lacks d [] = tt
 table_lacks d (c ∷ cs) = (on-axes_lacks d c, table_lacks d cs)
+
+pub ruleset lacking = (exchanged-lack, table_lacks)

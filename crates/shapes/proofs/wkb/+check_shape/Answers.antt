@@ -1,6 +1,6 @@
 use Rattle.std.proofs.Common.{◌-◌, ◌<◌, length, false, Some, ap, arith, length-drop}
 use Rattle.shapes.specs.Wkb.{points, line, times, counted, shape}
-use Rattle.shapes.proofs.Reading.{err-stop, counted-passes, counted-fails, counted-cut, turned-none, turned-more, turned-fails, turned-all, body-point, body-line, body-polygon, body-container, shape-deep, shape-unheaded, shape-passes, shape-fails, shape-follow}
+use Rattle.shapes.proofs.Reading.{err-stop, counted-passes, counted-fails, counted-cut, turned-more, turned-fails, turned-all, body-point, body-line, body-polygon, body-container, shape-deep, shape-unheaded, shape-passes, shape-fails, shape-follow}
 use Rattle.shapes.proofs.wkb.+check_shape.Goals as goal
 
 pub returns-then-levels-eq0 : goal.returns-then-levels-eq0
@@ -50,9 +50,6 @@ returns-in_err-n-in_default t c =
     err-stop _ _ _ _ c.from_residual-in_err-n-in_default.ensures.1
     (shape-fails c.args.levels c.args.outer c.args.bytes.now o d c.in_ok-order.after.now (counted o (times part)) h q.1 e _ (omega (arith, q.0))
     (counted-cut o (times part) c.in_ok-order.after.now _ z.0 z.1))
-
-pub parts-init : goal.parts-init
-parts-init t c = turned-none (shape (c.args.levels - 1) (Some c.in_ok-order.code)) c.in_ok-n-in_default.n c.in_ok-n-in_default.rest.now
 
 pub parts-preserved : goal.parts-preserved
 parts-preserved t c =

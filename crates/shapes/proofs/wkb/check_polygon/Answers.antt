@@ -1,15 +1,12 @@
 use Rattle.std.proofs.Common.{length, ap, arith, length-drop}
 use Rattle.shapes.specs.Wkb.{times, line}
-use Rattle.shapes.proofs.Reading.{err-stop, counted-passes, counted-fails, counted-cut, turned-none, turned-more, turned-fails, turned-all}
+use Rattle.shapes.proofs.Reading.{err-stop, counted-passes, counted-fails, counted-cut, turned-more, turned-fails, turned-all}
 use Rattle.shapes.proofs.wkb.check_polygon.Goals as goal
 
 pub returns-in_err-n : goal.returns-in_err-n
 returns-in_err-n c =
     let q = c.in_err-n.ensures in
     err-stop _ _ _ _ c.from_residual.ensures.1 (counted-cut c.args.order (times (line c.args.order c.args.dim)) c.args.bytes.now _ q.0 q.1)
-
-pub rings-init : goal.rings-init
-rings-init c = turned-none (line c.args.order c.args.dim) c.in_ok-n.n c.in_ok-n.rest.now
 
 pub rings-preserved : goal.rings-preserved
 rings-preserved c =

@@ -1,7 +1,7 @@
 -- Ordinates of bytes.
 use Rattle.std.proofs.Common.{◌≡◌, ℕ, List, take, refl, arith}
 use lib.Ieee.{of_bits, binary64, nan}
-use Rattle.std.proofs.lemmas.List.{get_or-take, take_rest}
+use Rattle.std.proofs.lemmas.List.{get_or-take}
 use Rattle.shapes.specs.declared.endian.Endian.{Endian}
 use Rattle.shapes.specs.declared.endian.Endian.TheVariants.{Big, Little}
 use Rattle.shapes.specs.Numbers.{f64_at}
@@ -16,5 +16,3 @@ pub f64_first : (o : Endian) (b : List ℕ) → f64_at o (take 8 b) ≡ f64_at o
 unfolding f64_at
 f64_first Big b = grind (arith, get_or-take)
 f64_first Little b = grind (arith, get_or-take)
-
-pub ruleset ordinates = (nan_is, f64_first, take_rest)

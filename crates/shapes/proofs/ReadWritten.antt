@@ -245,4 +245,4 @@ refused-no_writing b f x h c cs w =
     let e : read c cs ≡ refused f = sym (x.written_is_read c cs w) ∙ h in
     let z : ◌≡◌ {A = ℕ} 0 1 = cc in omega arith
 
-pub ruleset reads = (read-exactly, refused-no_writing)
+pub ruleset reads = (read-exactly)

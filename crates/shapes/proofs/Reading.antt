@@ -85,6 +85,14 @@ points-cut o d j (suc n) k b h =
 pub err-stop : {A : Type 0} (P : A → Type 0) (Q : Stop → Type 0) (x : Result A Stop) (s : Stop) → IsErrAnd x (λ y. y ≡ s) → Q s → MatchResult x P Q
 err-stop P Q x s e q = let p = err_from_is_err_and x e in rw (p.1, p.2) q
 
+-- a reader that stops where it begins
+fails-before : (r : Reader → Reader) (b : List ℕ) (s : Stop) (c : Cause) → s ≡ before c b → ((k : Reader) → (r k b).ending ≡ stop c (length b)) → Fails r b s
+fails-before r b s c e p =
+    record {
+      within = omega (arith, ap (λ (z : Stop). z.left) e);
+      stops = λ k. p k ∙ ap (λ (z : Stop). stop z.cause z.left) (sym e);
+    }
+
 -- n coordinates, by the answer of a skip of m ordinates
 pub points-follow : (d : Dimension) (n m : ℕ) (b : List ℕ) (x : Result (Bor (List ℕ)) Stop) → m ≡ n * width d →
     MatchResult x (λ rest. (8 * m ≤ length b) × (rest.now ≡ drop (8 * m) b)) (λ s. (length b < 8 * m) × (s ≡ record { cause = Truncated; left = length b % 8 })) → PointsFollow d n b x
@@ -108,29 +116,19 @@ module _ (o : Endian) (r : ℕ → Reader → Reader) (b : List ℕ) where
       whole-there 4 (λ c. r (u32_at o c) k (drop 4 c)) b h ∙ ap (λ i. r i k (drop 4 b)) (sym e) ∙ ap (r n k) (sym e')
 
   module _ (n : ℕ) (b' : List ℕ) (h : 4 ≤ length b) (e : n ≡ u32_at o b) (e' : b' ≡ drop 4 b) where
-    pub counted-passes : (rest : List ℕ) → Passes (r n) b' rest → Passes (counted o r) b rest
-    counted-passes rest p k = ap (λ u. u.ending) (counted-there n b' k h e e') ∙ p k
-
-    pub counted-fails : (s : Stop) → Fails (r n) b' s → Fails (counted o r) b s
-    counted-fails s p =
-        record {
-          within = omega (arith, p.within, ap length e', length-drop 4 b);
-          stops = λ k. ap (λ u. u.ending) (counted-there n b' k h e e') ∙ p.stops k;
-        }
-
     pub counted-follow : (x : Result (Bor (List ℕ)) Stop) → Follows (r n) b' x → Follows (counted o r) b x
     counted-follow x w =
         MatchResult-weaker x w
-        (λ rest p. (omega (arith, ap length e', length-drop 4 b, p.0), counted-passes rest.now p.1))
-        (λ s p. counted-fails s p)
+        (λ rest p. (omega (arith, ap length e', length-drop 4 b, p.0), λ k. ap (λ u. u.ending) (counted-there n b' k h e e') ∙ p.1 k))
+        (λ s p.
+        record {
+          within = omega (arith, p.within, ap length e', length-drop 4 b);
+          stops = λ k. ap (λ u. u.ending) (counted-there n b' k h e e') ∙ p.stops k;
+        })
 
   pub counted-cut : (s : Stop) → length b < 4 → s ≡ before Truncated b → Fails (counted o r) b s
   unfolding counted
-  counted-cut s h e =
-      record {
-        within = omega (arith, ap (λ (z : Stop). z.left) e);
-        stops = λ k. ap (λ u. u.ending) (whole-not 4 (λ c. r (u32_at o c) k (drop 4 c)) b h) ∙ ap (λ (z : Stop). stop z.cause z.left) (sym e);
-      }
+  counted-cut s h e = fails-before (counted o r) b s Truncated e (λ k. ap (λ u. u.ending) (whole-not 4 (λ c. r (u32_at o c) k (drop 4 c)) b h))
 
 -- ---- a loop of n turns that reads by r, at turn i
 
@@ -253,11 +251,7 @@ body-polygon o d part q e = ap (body o d part) e
 module _ (l : ℕ) (outer : Option Code) (b : List ℕ) where
   pub shape-deep : (s : Stop) → l ≡ 0 → s ≡ before TooDeep b → Fails (shape l outer) b s
   unfolding shape
-  shape-deep s e p =
-      record {
-        within = omega (arith, ap (λ (z : Stop). z.left) p);
-        stops = λ k. ap (λ i. (shape i outer k b).ending) e ∙ ap (λ (z : Stop). stop z.cause z.left) (sym p);
-      }
+  shape-deep s e p = fails-before (shape l outer) b s TooDeep p (λ k. ap (λ i. (shape i outer k b).ending) e)
 
   pub shape-header : 0 < l → (k : Reader) → shape l outer k b ≡ header outer (λ o c. body o c.dim (shape (l - 1) (Some c)) c.kind k) b
   unfolding shape
@@ -270,17 +264,27 @@ module _ (l : ℕ) (outer : Option Code) (b : List ℕ) where
     pub shape_is : (k : Reader) → shape l outer k b ≡ r k after
     shape_is k = shape-header h k ∙ u (λ o c. body o c.dim (shape (l - 1) (Some c)) c.kind k) ∙ ap (λ (p : Reader → Reader). p k after) e
 
-    pub shape-passes : (rest : List ℕ) → Passes r after rest → Passes (shape l outer) b rest
-    shape-passes rest p k = ap (λ r. r.ending) (shape_is k) ∙ p k
-
-    pub shape-fails : (s : Stop) → length after ≤ length b → Fails r after s → Fails (shape l outer) b s
-    shape-fails s le p = record { within = omega (arith, p.within); stops = λ k. ap (λ r. r.ending) (shape_is k) ∙ p.stops k }
-
-    pub shape-follow : (x : Result (Bor (List ℕ)) Stop) → length after ≤ length b → Follows r after x → Follows (shape l outer) b x
-    shape-follow x le w =
+    shape-follow : length after + 5 ≤ length b → (x : Result (Bor (List ℕ)) Stop) → Follows r after x → Follows (shape l outer) b x
+    shape-follow le x w =
         MatchResult-weaker x w
-        (λ rest p. (omega (arith, p.0), shape-passes rest.now p.1))
-        (λ s p. shape-fails s le p)
+        (λ rest p. (omega (arith, p.0), λ k. ap (λ u. u.ending) (shape_is k) ∙ p.1 k))
+        (λ s p. record { within = omega (arith, p.within); stops = λ k. ap (λ u. u.ending) (shape_is k) ∙ p.stops k })
+
+  -- by kind
+  module _ (o : Endian) (c : Code) (after : List ℕ) (h : 0 < l) (u : Headed outer b o c after) (le : length after + 5 ≤ length b) (x : Result (Bor (List ℕ)) Stop) where
+    pub point-follow : c.kind ≡ Point → PointsFollow c.dim 1 after x → Follows (shape l outer) b x
+    point-follow e w = shape-follow o c after (points o c.dim false 1) h u (body-point o c.dim (shape (l - 1) (Some c)) c.kind e) le x (w o false)
+
+    pub line-follow : c.kind ≡ Line → Follows (line o c.dim) after x → Follows (shape l outer) b x
+    line-follow e w = shape-follow o c after (line o c.dim) h u (body-line o c.dim (shape (l - 1) (Some c)) c.kind e) le x w
+
+    pub polygon-follow : c.kind ≡ Polygon → Follows (counted o (times (line o c.dim))) after x → Follows (shape l outer) b x
+    polygon-follow e w = shape-follow o c after (counted o (times (line o c.dim))) h u (body-polygon o c.dim (shape (l - 1) (Some c)) c.kind e) le x w
+
+    pub container-follow : (c.kind ≡ Point → ⊥) → (c.kind ≡ Line → ⊥) → (c.kind ≡ Polygon → ⊥) → Follows (counted o (times (shape (l - 1) (Some c)))) after x → Follows (shape l outer) b x
+    container-follow p q r w =
+        let part = shape (l - 1) (Some c) in
+        shape-follow o c after (counted o (times part)) h u (body-container o c.dim part c.kind p q r) le x w
 
 -- ---- decoding
 

@@ -1,5 +1,5 @@
 -- What is read was written.
-use Rattle.std.proofs.Common.{◌≡◌, ℕ, zero, suc, ◌+◌, ◌^◌, ◌<◌, ◌≤◌, Bool, true, false, eqb, List, [], ◌∷◌, ◌++◌, length, get_or, drop, Some, None, Option, sym, refl, ap, ◌∙◌, subst, append_assoc, append-nil, arith, Fits, w8}
+use Rattle.std.proofs.Common.{◌≡◌, ℕ, zero, suc, ◌+◌, ◌^◌, ◌<◌, ◌≤◌, Bool, true, false, eqb, List, [], ◌∷◌, ◌++◌, length, get_or, drop, Some, None, Option, sym, refl, ap, ◌∙◌, subst, append_assoc, append-nil, arith, drop-cons, drop-drop, Fits, w8}
 use Rattle.std.proofs.lemmas.Bool.{and_parts, eqb-true}
 use Rattle.std.proofs.lemmas.Bool.Decides.{nat_tests}
 use Rattle.std.proofs.ByRecursion.{All-drop, All-from_get_or}
@@ -37,14 +37,6 @@ fit_back : (v : Bool) (p : Reader) (e b : List ℕ) → (if v p (fault PartType)
 fit_back true p e b h = (refl, h)
 fit_back false p e b h = absurd (no_stop _ _ e h)
 
-first_rest : (b : List ℕ) → 1 ≤ length b → b ≡ get_or b 0 0 ∷ drop 1 b
-first_rest [] h = absurd (omega arith)
-first_rest (x ∷ b) h = refl
-
-drop-5 : (b : List ℕ) → drop 4 (drop 1 b) ≡ drop 5 b
-drop-5 [] = refl
-drop-5 (x ∷ b) = refl
-
 record Headed (outer : Option Code) (f : Endian → Code → Reader) (e b : List ℕ) : Type 0 where
   order : Endian
   code' : Code
@@ -71,13 +63,13 @@ header-back outer f e b hb h =
     let first : get_or b 0 0 ≡ order_byte o = order_back (get_or b 0 0) o p.1 in
     let number : u32_at o x ≡ code_number c = code-back (u32_at o x) c q.1 in
     let tail : x ≡ bytes o 4 (code_number c) ++ drop 5 b =
-    u.split ∙ (λ i. bytes o 4 (number i) ++ drop-5 b i) in
+    u.split ∙ (λ i. bytes o 4 (number i) ++ drop-drop 4 1 b i) in
     record {
       order = o;
       code' = c;
       rest = drop 5 b;
       fit = s.0;
-      split = first_rest b w.0 ∙ (λ i. first i ∷ tail i);
+      split = drop-cons b 0 0 w.0 ∙ (λ i. first i ∷ tail i);
       small = All-drop (λ i. i < 256) 5 b hb;
       goes = s.1;
     }
@@ -212,25 +204,16 @@ decoded-back t (stop f n) c c' cs cs' h = cc
 decoded-back t (ended []) c c' cs cs' h = refl
 decoded-back t (ended (x ∷ b)) c c' cs cs' h = cc
 
-ended_same : (a b : List ℕ) → ended a ≡ ended b → a ≡ b
-ended_same a b h = cc
-
-read-code : {c c' : Code} {cs cs' : List Coord} → read c cs ≡ read c' cs' → c ≡ c'
-read-code h = cc
-
-read-coords : {c c' : Code} {cs cs' : List Coord} → read c cs ≡ read c' cs' → cs ≡ cs'
-read-coords h = cc
-
 read-was_written : (b : List ℕ) (c : Code) (cs : List Coord) → Bytes b → decode b ≡ read c cs → WritingOf b c cs
 read-was_written b c cs hb h =
     let x = shape-back levels None finish [] b hb (decoded-back (length b) _ _ c _ cs h) in
     let d : Dimension = x.thing.0 in
     let tr : Tree = x.thing.1 in
-    let over : x.rest ≡ [] = ended_same x.rest [] x.goes in
+    let over : x.rest ≡ [] = cc x.goes in
     let same : written d tr ≡ b = sym (x.split ∙ ap (λ (w : List ℕ). written d tr ++ w) over ∙ append-nil (written d tr)) in
     let well : WellFormed d tr = record { good = x.good.0; shallow = x.good.1 } in
     let both : read (code d tr) (coords d tr) ≡ read c cs = sym (written-is_read d tr well) ∙ ap decode same ∙ h in
-    record { dim = d; tree = tr; well_formed = well; writes = same; has_code = read-code both; has_coords = read-coords both }
+    record { dim = d; tree = tr; well_formed = well; writes = same; has_code = cc both; has_coords = cc both }
 
 pub read-exactly : (b : List ℕ) → ((i : ℕ) → Fits w8 (get_or b i 0)) → ReadExactly b
 read-exactly b h8 = record {

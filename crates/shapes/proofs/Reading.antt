@@ -2,7 +2,6 @@
 use Rattle.std.proofs.Common.{◌≡◌, ℕ, zero, suc, ◌+◌, ◌-◌, ◌*◌, ◌%◌, ◌<◌, ◌≤◌, Bool, true, false, List, [], ◌∷◌, length, get_or, drop, Some, None, Option, Result, sym, refl, ap, ◌∙◌, inl, inr, suc-mul, zero-mul, arith, length-drop, drop-drop, Bor, le-leb, MatchResult}
 use Rattle.std.specs.Result.{IsErrAnd}
 use Rattle.std.proofs.lemmas.Result.{MatchResult-weaker, err_from_is_err_and}
-use native.Mathlib.Nat.{sub-zero}
 use Rattle.std.proofs.lemmas.Bool.{cases_lt}
 use borrow.Author.Tests.{lt-leb}
 use Rattle.shapes.specs.declared.endian.Endian.{Endian}
@@ -144,9 +143,6 @@ times_none r n i k b h = let e : n - i ≡ 0 = omega arith in ap (λ m. times r 
 pub record Turned (r : Reader → Reader) (n i : ℕ) (b rest : List ℕ) : Type 0 where
   pub shorter : length rest ≤ length b
   pub same : (k : Reader) → (times r (n - i) k rest).ending ≡ (times r n k b).ending
-
-pub turned-none : (r : Reader → Reader) (n : ℕ) (b : List ℕ) → Turned r n 0 b b
-turned-none r n b = record { shorter = omega arith; same = λ k. ap (λ m. (times r m k b).ending) (sub-zero n) }
 
 module _ (r : Reader → Reader) (n i : ℕ) (b rest : List ℕ) (t : Turned r n i b rest) where
   pub turned-more : (rest' : List ℕ) → i < n → (length rest' ≤ length rest) × Passes r rest rest' → Turned r n (i + 1) b rest'

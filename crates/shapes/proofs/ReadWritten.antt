@@ -3,7 +3,7 @@ use Rattle.std.proofs.Common.{◌≡◌, ℕ, zero, suc, ◌+◌, ◌^◌, ◌<�
 use Rattle.std.proofs.lemmas.Bool.{and_parts, eqb-true}
 use Rattle.std.proofs.lemmas.Bool.Decides.{nat_tests}
 use Rattle.std.proofs.ByRecursion.{All-drop, All-from_get_or}
-use Rattle.std.specs.List.{AllByRecursion}
+use Rattle.std.specs.List.{AllByRecursion, flat_map}
 use Rattle.shapes.specs.declared.endian.Endian.{Endian}
 use Rattle.shapes.specs.declared.code.Dimension.{Dimension}
 use Rattle.shapes.specs.declared.code.Code.{Code}
@@ -15,7 +15,7 @@ use Rattle.interval.specs.declared.fault.Cause.TheVariants.{PartType}
 use Rattle.shapes.specs.Codes.{code_number, code_of, fits, takes, kind_number, dim_number}
 use Rattle.shapes.specs.Numbers.{u32_at, order_of}
 use Rattle.shapes.specs.Wkb.{Reader, Ending, if, whole, fault, points, times, counted, stop, ended, header, with_order, with_code, body, shape, decode, decoded, levels, refused, read, finish}
-use Rattle.shapes.specs.Tree.{Parts, points as ofPoints, lines as ofLines, polygons as ofPolygons, anything, Tree, point, line as aLine, polygon, group, none, more, kind_of_group, kind, code, many, depth, deepest, flat, bytes, order_byte, head, place, ring, written, written_all, coords, IsPlace, IsRing, MayHold, Good, GoodAll, WellFormed, WritingOf, NoWriting, ReadExactly}
+use Rattle.shapes.specs.Tree.{Parts, points as ofPoints, lines as ofLines, polygons as ofPolygons, anything, Tree, point, line as aLine, polygon, group, none, more, kind_of_group, kind, code, many, depth, deepest, bytes, order_byte, head, place, ring, written, written_all, coords, IsPlace, IsRing, MayHold, Good, GoodAll, WellFormed, WritingOf, NoWriting, ReadExactly}
 use Rattle.shapes.proofs.Coding.{code-back, same-dim, same_kind}
 use Rattle.shapes.proofs.ReadBack.{Bytes, u32_back, Undoes, no_stop, whole_back, found_map, counted_back, coord-back, line-back, rings_back}
 use Rattle.shapes.proofs.WrittenRead.{written-is_read}
@@ -94,7 +94,7 @@ order (group o g ts) = o
 content : Dimension → Tree → List ℕ
 content d (point o p) = place o p
 content d (aLine o ps) = ring o ps
-content d (polygon o rs) = bytes o 4 (length rs) ++ flat (ring o) rs
+content d (polygon o rs) = bytes o 4 (length rs) ++ flat_map (ring o) rs
 content d (group o g ts) = bytes o 4 (many ts) ++ written_all d ts
 
 written-parts : (d : Dimension) (tr : Tree) → written d tr ≡ head d (order tr) (kind tr) ++ content d tr
@@ -168,7 +168,7 @@ module _ (l : ℕ) (o : Endian) (d : Dimension) (part : Kind → Reader → Read
       found_map (IsRing d) (ring o) (InBody l o d Line) (content d) (aLine o) (λ ps g. (refl, refl, g, omega arith)) (λ ps. refl) k e b
       (line-back o d k e b hb h)
   body_back Polygon k e b hb h =
-      found_map (λ rs. (length rs < 2 ^ 32) × AllByRecursion (IsRing d) rs) (λ rs. bytes o 4 (length rs) ++ flat (ring o) rs) (InBody l o d Polygon) (content d) (polygon o) (λ rs g. (refl, refl, g, omega arith)) (λ rs. refl) k e b
+      found_map (λ rs. (length rs < 2 ^ 32) × AllByRecursion (IsRing d) rs) (λ rs. bytes o 4 (length rs) ++ flat_map (ring o) rs) (InBody l o d Polygon) (content d) (polygon o) (λ rs g. (refl, refl, g, omega arith)) (λ rs. refl) k e b
       (rings_back o d k e b hb h)
   body_back MultiPoint k e b hb h = group-back l o d ofPoints (part MultiPoint) (one ofPoints) k e b hb h
   body_back MultiLine k e b hb h = group-back l o d ofLines (part MultiLine) (one ofLines) k e b hb h

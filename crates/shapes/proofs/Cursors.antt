@@ -1,11 +1,8 @@
 -- Laws of a cursor's pending counts.
-use Rattle.std.proofs.Common.{◌≡◌, ℕ, zero, suc, ◌+◌, ◌-◌, ◌*◌, ◌<◌, ◌≤◌, Bool, true, false, ◌≢◌, List, [], ◌∷◌, length, get_or, take, drop, set, replicate, Some, None, Ok, Err, Result, MatchResult, Option, MatchOption, sym, refl, ap, ◌∙◌, subst, arith, length-set, get_or-set_other, get_or-set_same}
-use Rattle.std.proofs.lemmas.List.{get_or-take}
-use lib.Ieee.{Float}
+use Rattle.std.proofs.Common.{◌≡◌, ℕ, zero, suc, ◌+◌, ◌-◌, ◌*◌, ◌<◌, ◌≤◌, Bool, true, false, ◌≢◌, List, [], ◌∷◌, length, get_or, drop, set, replicate, Some, None, Ok, Err, Result, MatchResult, Option, MatchOption, sym, refl, ap, ◌∙◌, subst, arith, length-set, get_or-set_other, get_or-set_same}
 use Rattle.std.specs.Result.{result_ok}
 use Rattle.interval.specs.declared.fault.Cause.TheVariants.{Truncated}
 use Rattle.shapes.specs.declared.endian.Endian.{Endian}
-use Rattle.shapes.specs.declared.endian.Endian.TheVariants.{Big, Little}
 use Rattle.shapes.specs.declared.code.Dimension.{Dimension}
 use Rattle.shapes.specs.declared.code.Dimension.TheVariants.{Xy, Xyz, Xym, Xyzm}
 use Rattle.shapes.specs.declared.code.Kind.{Kind}
@@ -14,7 +11,7 @@ use Rattle.shapes.specs.declared.code.Code.{Code}
 use Rattle.shapes.specs.declared.coord.Coord.{Coord}
 use Rattle.shapes.specs.declared.stop.Stop.{Stop}
 use Rattle.shapes.specs.Codes.{width}
-use Rattle.shapes.specs.Numbers.{u32_at, f64_at, coord_at}
+use Rattle.shapes.specs.Numbers.{u32_at, coord_at}
 use Rattle.shapes.specs.Source.{Shape}
 use Rattle.shapes.specs.Wkb.{Reader, points, line, times, counted, shape, finish, fault, body, coord, give, Headed, Unheaded, placed, decode, refused, read, levels}
 use Rattle.shapes.specs.Pending.{pending, parts}
@@ -210,12 +207,6 @@ module _ (d : Dimension) (inner : Kind) (counts : List ℕ) (depth : ℕ) (b : L
 
 -- ---- a coordinate
 
--- the first eight bytes alone are read
-pub f64_first : (o : Endian) (b : List ℕ) → f64_at o (take 8 b) ≡ f64_at o b
-unfolding f64_at
-f64_first Big b = grind (arith, get_or-take)
-f64_first Little b = grind (arith, get_or-take)
-
 pub width_two : (d : Dimension) → 2 ≤ width d
 width_two Xy = omega arith
 width_two Xyz = omega arith
@@ -249,10 +240,6 @@ give-next o d j q counts depth b rest x l le h w e ex =
     ∙ ap (λ cs. coord_at o d j b ∷ cs) (ap (λ r. (points o d true n K r).coords) (sym e)
     ∙ sym (ap (λ r. r.coords) (pending-at o d true q (set counts 32 n) depth rest n (get_or counts 31 0) (parts d q counts depth) (get_or-set_same counts 32 n 0 h32) (get_or-set_other counts 32 31 n 0 ne) (parts-set d q counts depth 32 n le2))))
     ∙ ap (λ y. y ∷ (pending o d true q (set counts 32 n) depth rest).coords) (sym ex)
-
--- the same ordinates make the same coordinate
-pub coord-same : {x x' y y' z z' m m' : Float} (j : Bool) → x ≡ x' → y ≡ y' → z ≡ z' → m ≡ m' → ◌≡◌ {A = Coord} (record { x = x; y = y; z = z; m = m; joins = j }) (record { x = x'; y = y'; z = z'; m = m'; joins = j })
-coord-same j ex ey ez em = cc
 
 -- ---- a fresh cursor
 

@@ -27,6 +27,7 @@ impl Coord {
     }
 
     // The same with NaN on the axes that the dimension lacks.
+    #[tactic(auto, using(crate::proofs::Ordinates::nan_is))]
     pub(crate) fn on_axes(self, dim: Dimension) -> Coord
         ensures { result ≡ on_axes dim self }
     {

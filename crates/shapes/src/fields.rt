@@ -49,6 +49,7 @@ pub(crate) fn header(bytes: &[u8], outer: Option<Code>) -> Result<(Endian, Code,
 }
 
 // The eight bytes at the start as a float.
+#[tactic(auto, using(crate::proofs::Ordinates::f64_first))]
 fn ordinate(bytes: &[u8], order: Endian) -> f64
     requires { 8 ≤ length bytes.now }
     ensures { result ≡ f64_at order bytes.now }

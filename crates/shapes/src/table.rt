@@ -32,6 +32,7 @@ impl<'a> ShapeSource for Table<'a> {
 
     ghost room = { λ s. length s.rest.now };
 
+    #[tactic(auto, using(crate::proofs::Sources::lacking))]
     fn next(&mut self) -> Option<Coord> {
         let (first, rest) = self.rest.split_first()?;
         self.rest = rest;

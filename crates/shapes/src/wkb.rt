@@ -68,6 +68,7 @@ pub struct Checked<'a> {
 }
 
 // The bytes, if they hold one whole shape, or else the first fault in reading order.
+#[tactic(auto, using(crate::proofs::ReadWritten::reads))]
 pub fn check(bytes: &[u8]) -> Result<Checked<'_>, Fault>
     ensures decoded { MatchResult result (λ c. (c.bytes.now ≡ bytes.now) × (decode bytes.now ≡ read (code_at bytes.now) (coords_in bytes.now))) (λ f. decode bytes.now ≡ refused f) }
     ensures written { MatchResult result (λ c. WritingOf bytes.now (code_at bytes.now) (coords_in bytes.now)) (λ f. NoWriting bytes.now) }

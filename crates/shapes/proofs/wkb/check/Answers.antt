@@ -12,23 +12,14 @@ returns-in_err-rest-clause-written c =
     let r : decode b ≡ refused c.in_err-rest.field-0.0 = grind (arith, common_steps) in
     rw p.1 (refused-no_writing b _ (read-exactly b c.type_inv.bytes) r)
 
-pub returns-in_err-rest-clause-exactly : goal.returns-in_err-rest-clause-exactly
-returns-in_err-rest-clause-exactly c = read-exactly c.args.bytes.now c.type_inv.bytes
-
 pub returns-then-not-is_empty-clause-written : goal.returns-then-not-is_empty-clause-written
 returns-then-not-is_empty-clause-written c =
     let b = c.args.bytes.now in
     let r : decode b ≡ refused c.fault.result = grind (arith, common_steps) in
     refused-no_writing b _ (read-exactly b c.type_inv.bytes) r
 
-pub returns-then-not-is_empty-clause-exactly : goal.returns-then-not-is_empty-clause-exactly
-returns-then-not-is_empty-clause-exactly c = read-exactly c.args.bytes.now c.type_inv.bytes
-
 pub returns-clause-written : goal.returns-clause-written
 returns-clause-written c =
     let b = c.args.bytes.now in
     let r : decode b ≡ read (code_at b) (coords_in b) = grind (arith, common_steps) in
     (read-exactly b c.type_inv.bytes).read_was_written _ _ r
-
-pub returns-clause-exactly : goal.returns-clause-exactly
-returns-clause-exactly c = read-exactly c.args.bytes.now c.type_inv.bytes

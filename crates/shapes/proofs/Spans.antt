@@ -1,5 +1,5 @@
 -- One value more on a span, by `<` alone, and columns of points.
-use Rattle.std.proofs.Common.{◌≡◌, ℕ, zero, suc, ◌+◌, ◌*◌, ◌<◌, ◌≤◌, Bool, true, false, cond, not, ◌||◌, T, List, ◌∷◌, length, get_or, take, drop, map, sym, refl, ap, ◌∙◌, subst, ap₂, add_comm, mul-suc, mul-zero, arith, lit<}
+use Rattle.std.proofs.Common.{◌≡◌, ℕ, zero, suc, ◌+◌, ◌*◌, ◌<◌, ◌≤◌, Bool, true, false, cond, not, ◌||◌, T, List, ◌∷◌, length, get_or, take, drop, map, sym, refl, ap, ◌∙◌, subst, ap₂, add_comm, mul-suc, mul-zero, arith}
 use lib.Ieee.{Float, nan, le, lt, is_nan}
 use Rattle.std.specs.Float.{float_min, float_max}
 use Rattle.std.proofs.lemmas.List.{drop-drop, get_or-drop, get_or-take}
@@ -77,14 +77,8 @@ get_or-first_chunks s (suc k) (suc i) xs d h =
 
 -- eight bytes of a point do not depend on what follows the point
 u64-taken : (o : Endian) (at size : ℕ) (b : List ℕ) → at + 8 ≤ size → u64_at o (drop at (take size b)) ≡ u64_at o (drop at b)
-u64-taken o at size b h = go o
-  where
-    same : (i : ℕ) → i < 8 → get_or (drop at (take size b)) i 0 ≡ get_or (drop at b) i 0
-    same i l = let k : at + i < size = omega arith in get_or-drop at (take size b) i 0 ∙ get_or-take size b (at + i) 0 k ∙ sym (get_or-drop at b i 0)
-
-    go : (o : Endian) → u64_at o (drop at (take size b)) ≡ u64_at o (drop at b)
-    go Big = rw (same 0 (lit< tt), same 1 (lit< tt), same 2 (lit< tt), same 3 (lit< tt), same 4 (lit< tt), same 5 (lit< tt), same 6 (lit< tt), same 7 (lit< tt))
-    go Little = rw (same 0 (lit< tt), same 1 (lit< tt), same 2 (lit< tt), same 3 (lit< tt), same 4 (lit< tt), same 5 (lit< tt), same 6 (lit< tt), same 7 (lit< tt))
+u64-taken Big at size b h = grind (arith, get_or-take, get_or-drop)
+u64-taken Little at size b h = grind (arith, get_or-take, get_or-drop)
 
 module _ (o : Endian) (at : ℕ) where
   abbrev bits : List ℕ → ℕ

@@ -16,7 +16,7 @@ mod swapped;
 mod table;
 mod wkb;
 
-pub use code::{Code, Dimension, Kind};
+pub use code::{Code, Dimension, Kind, UnknownCode};
 pub use coord::Coord;
 pub use hulls::Hulls;
 pub use source::ShapeSource;

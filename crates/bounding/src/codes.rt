@@ -15,7 +15,7 @@ fn place(code: Code) -> u32
     ensures value { result ≡ Record.place code }
     ensures bound { result < 28 }
 {
-    code.dim.number() * 7 + code.kind.number() - 1
+    u32::from(code.dim) * 7 + u32::from(code.kind) - 1
 }
 
 impl CodeSet {

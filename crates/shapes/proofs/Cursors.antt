@@ -1,23 +1,36 @@
 -- Laws of a cursor's pending counts.
-use Rattle.std.proofs.Common.{◌≡◌, ℕ, zero, suc, ◌+◌, ◌-◌, ◌*◌, ◌<◌, ◌≤◌, Bool, true, false, ◌≢◌, List, [], ◌∷◌, length, get_or, drop, set, replicate, Some, None, sym, refl, ap, ◌∙◌, arith, length-set, get_or-set_other, get_or-set_same}
-use lib.Ieee.{Float}
+use Rattle.std.proofs.Common.{◌≡◌, ℕ, zero, suc, ◌+◌, ◌-◌, ◌*◌, ◌<◌, ◌≤◌, Bool, true, false, ◌≢◌, List, [], ◌∷◌, length, get_or, drop, set, replicate, Some, None, Ok, Err, Result, MatchResult, Option, MatchOption, sym, refl, ap, ◌∙◌, subst, arith, length-set, get_or-set_other, get_or-set_same}
+use Rattle.std.specs.Result.{result_ok}
 use Rattle.interval.specs.declared.fault.Cause.TheVariants.{Truncated}
-use Rattle.interval.specs.declared.fault.Fault.{Fault}
 use Rattle.shapes.specs.declared.endian.Endian.{Endian}
-use Rattle.shapes.specs.declared.endian.Endian.TheVariants.{Big, Little}
 use Rattle.shapes.specs.declared.code.Dimension.{Dimension}
 use Rattle.shapes.specs.declared.code.Dimension.TheVariants.{Xy, Xyz, Xym, Xyzm}
 use Rattle.shapes.specs.declared.code.Kind.{Kind}
 use Rattle.shapes.specs.declared.code.Kind.TheVariants.{Point, Line, Polygon, MultiPoint, MultiLine, MultiPolygon, Collection}
 use Rattle.shapes.specs.declared.code.Code.{Code}
 use Rattle.shapes.specs.declared.coord.Coord.{Coord}
+use Rattle.shapes.specs.declared.stop.Stop.{Stop}
 use Rattle.shapes.specs.Codes.{width}
-use Rattle.shapes.specs.Numbers.{u32_at, f64_at, coord_at}
+use Rattle.shapes.specs.Numbers.{u32_at, coord_at}
 use Rattle.shapes.specs.Source.{Shape}
-use Rattle.shapes.specs.Wkb.{Reader, points, line, times, counted, shape, finish, fault, body, coord, give, Headed, Unheaded, decode, refused, read, levels}
+use Rattle.shapes.specs.Wkb.{Reader, points, line, times, counted, shape, finish, fault, body, coord, give, Headed, Unheaded, placed, decode, refused, read, levels}
 use Rattle.shapes.specs.Pending.{pending, parts}
 use Rattle.shapes.proofs.Coding.{coded}
 use Rattle.shapes.proofs.Reading.{counted-there, whole-not, shape_is, shape-header, shape-unheaded, eights-fit, eights-cut, decode-fails}
+
+-- ---- answers of which only the `Ok` is kept
+
+pub kept : {T E : Type 0} (r : Result T E) (P : T → Type 0) (Q : E → Type 0) (x : T) → result_ok r ≡ Some x → MatchResult r P Q → P x
+kept (Ok y) P Q x e m = let q : y ≡ x = cc in subst P q m
+kept (Err f) P Q x e m = cc
+
+pub lost : {T E : Type 0} (r : Result T E) (P : T → Type 0) (Q : E → Type 0) → result_ok r ≡ None → MatchResult r P Q → (f : E) × Q f
+lost (Ok y) P Q e m = cc
+lost (Err f) P Q e m = (f, m)
+
+pub by_option : {A X : Type 0} (r : Option A) {P : Type 0} {Q : A → Type 0} → MatchOption r P Q → (P → X) → ((x : A) → Q x → X) → X
+by_option None w f g = f w
+by_option (Some x) w f g = g x w
 
 -- ---- counts
 
@@ -186,18 +199,13 @@ module _ (d : Dimension) (inner : Kind) (counts : List ℕ) (depth : ℕ) (b : L
       ∙ ap (λ i. body o c.dim (shape i (Some c)) c.kind (parts d inner fewer depth) after) el
       ∙ ap (λ x. body o x (shape (31 - depth) (Some (coded c.kind x))) c.kind (parts d inner fewer depth) after) ed
 
-  pub part_unheaded : (t : ℕ) (f : Fault) → Unheaded t (Some outer) b f → (parts d inner counts depth b).coords ≡ []
-  part_unheaded t f u =
+  pub part_unheaded : (s : Stop) → Unheaded (Some outer) b s → (parts d inner counts depth b).coords ≡ []
+  part_unheaded s u =
       let hl : 0 < 31 - (depth - 1) = omega arith in
       let K = times (shape (31 - (depth - 1)) (Some outer)) (get_or counts (depth - 1) 0 - 1) (parts d Collection counts (depth - 1)) in
       ap (λ r. r.coords) (part_first ∙ shape-header (31 - (depth - 1)) (Some outer) b hl K ∙ u.stops (λ o c. body o c.dim (shape (31 - (depth - 1) - 1) (Some c)) c.kind K))
 
 -- ---- a coordinate
-
-pub f64_list : (o : Endian) (b : List ℕ) → f64_at o (get_or b 0 0 ∷ get_or b 1 0 ∷ get_or b 2 0 ∷ get_or b 3 0 ∷ get_or b 4 0 ∷ get_or b 5 0 ∷ get_or b 6 0 ∷ get_or b 7 0 ∷ []) ≡ f64_at o b
-unfolding f64_at
-f64_list Big b = refl
-f64_list Little b = refl
 
 pub width_two : (d : Dimension) → 2 ≤ width d
 width_two Xy = omega arith
@@ -233,10 +241,6 @@ give-next o d j q counts depth b rest x l le h w e ex =
     ∙ sym (ap (λ r. r.coords) (pending-at o d true q (set counts 32 n) depth rest n (get_or counts 31 0) (parts d q counts depth) (get_or-set_same counts 32 n 0 h32) (get_or-set_other counts 32 31 n 0 ne) (parts-set d q counts depth 32 n le2))))
     ∙ ap (λ y. y ∷ (pending o d true q (set counts 32 n) depth rest).coords) (sym ex)
 
--- the same ordinates make the same coordinate
-pub coord-same : {x x' y y' z z' m m' : Float} (j : Bool) → x ≡ x' → y ≡ y' → z ≡ z' → m ≡ m' → ◌≡◌ {A = Coord} (record { x = x; y = y; z = z; m = m; joins = j }) (record { x = x'; y = y'; z = z'; m = m'; joins = j })
-coord-same j ex ey ez em = cc
-
 -- ---- a fresh cursor
 
 pub whole-headed : (inner : Kind) (counts b : List ℕ) (o : Endian) (c : Code) (after : List ℕ) → Headed None b o c after →
@@ -247,10 +251,10 @@ whole-headed inner counts b o c after u =
     sym (shape_is 32 None b o c after (body o c.dim (shape 31 (Some c)) c.kind) h u refl finish)
 
 -- where the outermost header is at fault, the bytes are not read
-pub whole-unheaded : (b : List ℕ) (f : Fault) (c : Code) (cs : List Coord) → Unheaded (length b) None b f → decode b ≡ read c cs → ⊥
-whole-unheaded b f c cs u e =
+pub whole-unheaded : (b : List ℕ) (s : Stop) (c : Code) (cs : List Coord) → Unheaded None b s → decode b ≡ read c cs → ⊥
+whole-unheaded b s c cs u e =
     let h : ◌<◌ 0 32 = omega arith in
-    let r : decode b ≡ refused f = decode-fails b f (shape-unheaded 32 None b (length b) f h u) in
+    let r : decode b ≡ refused (placed (length b) s.cause s.left) = decode-fails b s (shape-unheaded 32 None b s h u) in
     let z : ◌≡◌ {A = ℕ} 0 1 = cc in omega arith
 
 pub none-pending : (o : Endian) (d : Dimension) (j : Bool) (q : Kind) (b : List ℕ) → (pending o d j q (replicate 33 0) 0 b).coords ≡ []

@@ -1,5 +1,6 @@
 pub mod Coding
 pub mod Reading
+pub mod Ordinates
 pub mod Cursors
 pub mod Sound
 pub mod Sources

@@ -2,7 +2,7 @@
 use Rattle.std.proofs.Common.{◌≡◌, ℕ, zero, suc, ◌+◌, ◌*◌, ◌/◌, ◌%◌, ◌^◌, ◌<◌, ◌≤◌, Bool, true, false, List, [], ◌∷◌, ◌++◌, reverse, length, drop, sym, refl, ap, ◌∙◌, inl, inr, append_assoc, arith, length-drop}
 use Rattle.std.proofs.lemmas.Bool.{cases_lt}
 use Rattle.std.proofs.ByRecursion.{All-drop}
-use Rattle.std.specs.List.{AllByRecursion}
+use Rattle.std.specs.List.{AllByRecursion, flat_map}
 use Rattle.shapes.specs.declared.endian.Endian.{Endian}
 use Rattle.shapes.specs.declared.endian.Endian.TheVariants.{Big, Little}
 use Rattle.shapes.specs.declared.code.Dimension.{Dimension}
@@ -11,7 +11,7 @@ use Rattle.interval.specs.declared.fault.Cause.{Cause}
 use Rattle.shapes.specs.Codes.{width}
 use Rattle.shapes.specs.Numbers.{u32_at, u64_at}
 use Rattle.shapes.specs.Wkb.{Reader, whole, eights, coord, points, line, times, counted, stop, ended}
-use Rattle.shapes.specs.Tree.{Place, flat, little, bytes, place, ring, coord_of, IsPlace, IsRing}
+use Rattle.shapes.specs.Tree.{Place, little, bytes, place, ring, coord_of, IsPlace, IsRing}
 use Rattle.shapes.proofs.Reading.{whole-there, whole-not}
 use Rattle.shapes.proofs.WrittenRead.{Reads, coord-read}
 
@@ -113,8 +113,8 @@ found_map P f Q g m p s k e b x = record {
 }
 
 module _ {A : Type 0} (r : Reader → Reader) (P : A → Type 0) (f : A → List ℕ) (one : Undoes r P f) where
-  pub times-back : (n : ℕ) → Undoes (times r n) (λ l. (length l ≡ n) × AllByRecursion P l) (flat f)
-  unfolding times flat
+  pub times-back : (n : ℕ) → Undoes (times r n) (λ l. (length l ≡ n) × AllByRecursion P l) (flat_map f)
+  unfolding times
   times-back zero k e b hb h = record { thing = []; good = (refl, tt); rest = b; split = refl; small = hb; goes = h }
   times-back (suc n) k e b hb h =
       let x = one (times r n k) e b hb h in
@@ -123,7 +123,7 @@ module _ {A : Type 0} (r : Reader → Reader) (P : A → Type 0) (f : A → List
         thing = x.thing ∷ y.thing;
         good = (ap suc y.good.0, (x.good, y.good.1));
         rest = y.rest;
-        split = x.split ∙ ap (λ (w : List ℕ). f x.thing ++ w) y.split ∙ sym (append_assoc (f x.thing) (flat f y.thing) y.rest);
+        split = x.split ∙ ap (λ (w : List ℕ). f x.thing ++ w) y.split ∙ sym (append_assoc (f x.thing) (flat_map f y.thing) y.rest);
         small = y.small;
         goes = y.goes;
       }
@@ -166,7 +166,6 @@ record Laid (o : Endian) (n : ℕ) (b : List ℕ) : Type 0 where
   small : Bytes rest
 
 place-back : (o : Endian) (n : ℕ) (b : List ℕ) → 8 * n ≤ length b → Bytes b → Laid o n b
-unfolding flat
 place-back o zero b l h = record { place' = []; size = refl; low = tt; rest = b; split = refl; small = h }
 place-back o (suc n) b l h =
     let i : ℕ = u64_at o b in
@@ -196,8 +195,8 @@ module _ (o : Endian) (d : Dimension) where
         goes = goes_on (coord o d j) (place o x.place') (coord_of d j x.place' ∷ []) k e b x.rest (coord-read o d j x.place' good) x.split h;
       }
 
-  points-back : (n : ℕ) (j : Bool) → Undoes (points o d j n) (λ ps. (length ps ≡ n) × AllByRecursion (IsPlace d) ps) (flat (place o))
-  unfolding points flat
+  points-back : (n : ℕ) (j : Bool) → Undoes (points o d j n) (λ ps. (length ps ≡ n) × AllByRecursion (IsPlace d) ps) (flat_map (place o))
+  unfolding points
   points-back zero j k e b hb h = record { thing = []; good = (refl, tt); rest = b; split = refl; small = hb; goes = h }
   points-back (suc n) j k e b hb h =
       let x = coord-back j (points o d true n k) e b hb h in
@@ -206,13 +205,13 @@ module _ (o : Endian) (d : Dimension) where
         thing = x.thing ∷ y.thing;
         good = (ap suc y.good.0, (x.good, y.good.1));
         rest = y.rest;
-        split = x.split ∙ ap (λ (w : List ℕ). place o x.thing ++ w) y.split ∙ sym (append_assoc (place o x.thing) (flat (place o) y.thing) y.rest);
+        split = x.split ∙ ap (λ (w : List ℕ). place o x.thing ++ w) y.split ∙ sym (append_assoc (place o x.thing) (flat_map (place o) y.thing) y.rest);
         small = y.small;
         goes = y.goes;
       }
 
   pub line-back : Undoes (line o d) (IsRing d) (ring o)
-  line-back = counted_back o (points o d false) length (AllByRecursion (IsPlace d)) (flat (place o)) (λ n. points-back n false)
+  line-back = counted_back o (points o d false) length (AllByRecursion (IsPlace d)) (flat_map (place o)) (λ n. points-back n false)
 
-  pub rings_back : Undoes (counted o (times (line o d))) (λ rs. (length rs < 2 ^ 32) × AllByRecursion (IsRing d) rs) (λ rs. bytes o 4 (length rs) ++ flat (ring o) rs)
-  rings_back = counted_back o (times (line o d)) length (AllByRecursion (IsRing d)) (flat (ring o)) (times-back (line o d) (IsRing d) (ring o) line-back)
+  pub rings_back : Undoes (counted o (times (line o d))) (λ rs. (length rs < 2 ^ 32) × AllByRecursion (IsRing d) rs) (λ rs. bytes o 4 (length rs) ++ flat_map (ring o) rs)
+  rings_back = counted_back o (times (line o d)) length (AllByRecursion (IsRing d)) (flat_map (ring o)) (times-back (line o d) (IsRing d) (ring o) line-back)

@@ -1,9 +1,9 @@
 -- What is read was written.
-use Rattle.std.proofs.Common.{◌≡◌, ℕ, zero, suc, ◌+◌, ◌^◌, ◌<◌, ◌≤◌, Bool, true, false, eqb, List, [], ◌∷◌, ◌++◌, length, get_or, drop, Some, None, Option, sym, refl, ap, ◌∙◌, subst, append_assoc, append-nil, arith}
+use Rattle.std.proofs.Common.{◌≡◌, ℕ, zero, suc, ◌+◌, ◌^◌, ◌<◌, ◌≤◌, Bool, true, false, eqb, List, [], ◌∷◌, ◌++◌, length, get_or, drop, Some, None, Option, sym, refl, ap, ◌∙◌, subst, append_assoc, append-nil, arith, drop-cons, drop-drop, Fits, w8}
 use Rattle.std.proofs.lemmas.Bool.{and_parts, eqb-true}
 use Rattle.std.proofs.lemmas.Bool.Decides.{nat_tests}
-use Rattle.std.proofs.ByRecursion.{All-drop}
-use Rattle.std.specs.List.{AllByRecursion}
+use Rattle.std.proofs.ByRecursion.{All-drop, All-from_get_or}
+use Rattle.std.specs.List.{AllByRecursion, flat_map}
 use Rattle.shapes.specs.declared.endian.Endian.{Endian}
 use Rattle.shapes.specs.declared.code.Dimension.{Dimension}
 use Rattle.shapes.specs.declared.code.Code.{Code}
@@ -15,7 +15,7 @@ use Rattle.interval.specs.declared.fault.Cause.TheVariants.{PartType}
 use Rattle.shapes.specs.Codes.{code_number, code_of, fits, takes, kind_number, dim_number}
 use Rattle.shapes.specs.Numbers.{u32_at, order_of}
 use Rattle.shapes.specs.Wkb.{Reader, Ending, if, whole, fault, points, times, counted, stop, ended, header, with_order, with_code, body, shape, decode, decoded, levels, refused, read, finish}
-use Rattle.shapes.specs.Tree.{Parts, points as ofPoints, lines as ofLines, polygons as ofPolygons, anything, Tree, point, line as aLine, polygon, group, none, more, kind_of_group, kind, code, many, depth, deepest, flat, bytes, order_byte, head, place, ring, written, written_all, coords, IsPlace, IsRing, MayHold, Good, GoodAll, WellFormed, WritingOf, NoWriting, ReadExactly}
+use Rattle.shapes.specs.Tree.{Parts, points as ofPoints, lines as ofLines, polygons as ofPolygons, anything, Tree, point, line as aLine, polygon, group, none, more, kind_of_group, kind, code, many, depth, deepest, bytes, order_byte, head, place, ring, written, written_all, coords, IsPlace, IsRing, MayHold, Good, GoodAll, WellFormed, WritingOf, NoWriting, ReadExactly}
 use Rattle.shapes.proofs.Coding.{code-back, same-dim, same_kind}
 use Rattle.shapes.proofs.ReadBack.{Bytes, u32_back, Undoes, no_stop, whole_back, found_map, counted_back, coord-back, line-back, rings_back}
 use Rattle.shapes.proofs.WrittenRead.{written-is_read}
@@ -36,14 +36,6 @@ with_code-back None f e b h = absurd (no_stop _ _ e h)
 fit_back : (v : Bool) (p : Reader) (e b : List ℕ) → (if v p (fault PartType) b).ending ≡ ended e → (v ≡ true) × ((p b).ending ≡ ended e)
 fit_back true p e b h = (refl, h)
 fit_back false p e b h = absurd (no_stop _ _ e h)
-
-first_rest : (b : List ℕ) → 1 ≤ length b → b ≡ get_or b 0 0 ∷ drop 1 b
-first_rest [] h = absurd (omega arith)
-first_rest (x ∷ b) h = refl
-
-drop-5 : (b : List ℕ) → drop 4 (drop 1 b) ≡ drop 5 b
-drop-5 [] = refl
-drop-5 (x ∷ b) = refl
 
 record Headed (outer : Option Code) (f : Endian → Code → Reader) (e b : List ℕ) : Type 0 where
   order : Endian
@@ -71,13 +63,13 @@ header-back outer f e b hb h =
     let first : get_or b 0 0 ≡ order_byte o = order_back (get_or b 0 0) o p.1 in
     let number : u32_at o x ≡ code_number c = code-back (u32_at o x) c q.1 in
     let tail : x ≡ bytes o 4 (code_number c) ++ drop 5 b =
-    u.split ∙ (λ i. bytes o 4 (number i) ++ drop-5 b i) in
+    u.split ∙ (λ i. bytes o 4 (number i) ++ drop-drop 4 1 b i) in
     record {
       order = o;
       code' = c;
       rest = drop 5 b;
       fit = s.0;
-      split = first_rest b w.0 ∙ (λ i. first i ∷ tail i);
+      split = drop-cons b 0 0 w.0 ∙ (λ i. first i ∷ tail i);
       small = All-drop (λ i. i < 256) 5 b hb;
       goes = s.1;
     }
@@ -102,7 +94,7 @@ order (group o g ts) = o
 content : Dimension → Tree → List ℕ
 content d (point o p) = place o p
 content d (aLine o ps) = ring o ps
-content d (polygon o rs) = bytes o 4 (length rs) ++ flat (ring o) rs
+content d (polygon o rs) = bytes o 4 (length rs) ++ flat_map (ring o) rs
 content d (group o g ts) = bytes o 4 (many ts) ++ written_all d ts
 
 written-parts : (d : Dimension) (tr : Tree) → written d tr ≡ head d (order tr) (kind tr) ++ content d tr
@@ -176,7 +168,7 @@ module _ (l : ℕ) (o : Endian) (d : Dimension) (part : Kind → Reader → Read
       found_map (IsRing d) (ring o) (InBody l o d Line) (content d) (aLine o) (λ ps g. (refl, refl, g, omega arith)) (λ ps. refl) k e b
       (line-back o d k e b hb h)
   body_back Polygon k e b hb h =
-      found_map (λ rs. (length rs < 2 ^ 32) × AllByRecursion (IsRing d) rs) (λ rs. bytes o 4 (length rs) ++ flat (ring o) rs) (InBody l o d Polygon) (content d) (polygon o) (λ rs g. (refl, refl, g, omega arith)) (λ rs. refl) k e b
+      found_map (λ rs. (length rs < 2 ^ 32) × AllByRecursion (IsRing d) rs) (λ rs. bytes o 4 (length rs) ++ flat_map (ring o) rs) (InBody l o d Polygon) (content d) (polygon o) (λ rs g. (refl, refl, g, omega arith)) (λ rs. refl) k e b
       (rings_back o d k e b hb h)
   body_back MultiPoint k e b hb h = group-back l o d ofPoints (part MultiPoint) (one ofPoints) k e b hb h
   body_back MultiLine k e b hb h = group-back l o d ofLines (part MultiLine) (one ofLines) k e b hb h
@@ -212,29 +204,20 @@ decoded-back t (stop f n) c c' cs cs' h = cc
 decoded-back t (ended []) c c' cs cs' h = refl
 decoded-back t (ended (x ∷ b)) c c' cs cs' h = cc
 
-ended_same : (a b : List ℕ) → ended a ≡ ended b → a ≡ b
-ended_same a b h = cc
-
-read-code : {c c' : Code} {cs cs' : List Coord} → read c cs ≡ read c' cs' → c ≡ c'
-read-code h = cc
-
-read-coords : {c c' : Code} {cs cs' : List Coord} → read c cs ≡ read c' cs' → cs ≡ cs'
-read-coords h = cc
-
 read-was_written : (b : List ℕ) (c : Code) (cs : List Coord) → Bytes b → decode b ≡ read c cs → WritingOf b c cs
 read-was_written b c cs hb h =
     let x = shape-back levels None finish [] b hb (decoded-back (length b) _ _ c _ cs h) in
     let d : Dimension = x.thing.0 in
     let tr : Tree = x.thing.1 in
-    let over : x.rest ≡ [] = ended_same x.rest [] x.goes in
+    let over : x.rest ≡ [] = cc x.goes in
     let same : written d tr ≡ b = sym (x.split ∙ ap (λ (w : List ℕ). written d tr ++ w) over ∙ append-nil (written d tr)) in
     let well : WellFormed d tr = record { good = x.good.0; shallow = x.good.1 } in
     let both : read (code d tr) (coords d tr) ≡ read c cs = sym (written-is_read d tr well) ∙ ap decode same ∙ h in
-    record { dim = d; tree = tr; well_formed = well; writes = same; has_code = read-code both; has_coords = read-coords both }
+    record { dim = d; tree = tr; well_formed = well; writes = same; has_code = cc both; has_coords = cc both }
 
-pub read-exactly : (b : List ℕ) → Bytes b → ReadExactly b
-read-exactly b hb = record {
-  read_was_written = λ c cs h. read-was_written b c cs hb h;
+pub read-exactly : (b : List ℕ) → ((i : ℕ) → Fits w8 (get_or b i 0)) → ReadExactly b
+read-exactly b h8 = record {
+  read_was_written = λ c cs h. read-was_written b c cs (All-from_get_or (λ n. n < 256) b 0 (λ i _. omega (arith, h8 i))) h;
   written_is_read = λ c cs w.
       sym (ap decode w.writes) ∙ written-is_read w.dim w.tree w.well_formed
       ∙ ap (λ (x : Code). read x (coords w.dim w.tree)) w.has_code ∙ ap (read c) w.has_coords;
@@ -244,3 +227,5 @@ pub refused-no_writing : (b : List ℕ) (f : Fault) → ReadExactly b → decode
 refused-no_writing b f x h c cs w =
     let e : read c cs ≡ refused f = sym (x.written_is_read c cs w) ∙ h in
     let z : ◌≡◌ {A = ℕ} 0 1 = cc in omega arith
+
+pub ruleset reads = (read-exactly)

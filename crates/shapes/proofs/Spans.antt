@@ -1,14 +1,20 @@
--- One value more on a span, by `<` alone, and the rows of a column.
-use Rattle.std.proofs.Common.{◌≡◌, ℕ, zero, suc, ◌+◌, ◌-◌, ◌*◌, ◌<◌, ◌≤◌, Bool, true, false, cond, not, ◌||◌, T, List, drop, sym, refl, ap, ◌∙◌, subst, ap₂, mul_comm, add_comm, mul-suc, arith}
+-- One value more on a span, by `<` alone, and columns of points.
+use Rattle.std.proofs.Common.{◌≡◌, ℕ, zero, suc, ◌+◌, ◌*◌, ◌<◌, ◌≤◌, Bool, true, false, cond, not, ◌||◌, T, List, ◌∷◌, length, get_or, take, drop, map, sym, refl, ap, ◌∙◌, subst, ap₂, add_comm, mul-suc, mul-zero, arith}
 use lib.Ieee.{Float, nan, le, lt, is_nan}
 use Rattle.std.specs.Float.{float_min, float_max}
-use Rattle.std.proofs.lemmas.List.{drop-drop}
+use Rattle.std.proofs.lemmas.List.{drop-drop, get_or-drop, get_or-take}
+use Rattle.std.proofs.lemmas.List.Folds.{fold-map}
+use Rattle.std.proofs.lemmas.List.Sums.{fold-append, fold_more}
+use Rattle.std.proofs.Math.Seq.{take-add}
+use Rattle.std.specs.List.{fold}
+use Rattle.std.specs.Simd.{first_chunks}
 use Rattle.std.proofs.lemmas.Float.{le_left, le_right, le_of_lt}
 use Rattle.number.proofs.Plain.{lt-is_not_le, not_le_of_lt}
-use Rattle.interval.specs.Pairs.{Pair, pair}
+use Rattle.interval.specs.Pairs.{Pair, pair, nothing}
 use Rattle.interval.specs.Ordinary.{with_value}
 use Rattle.shapes.specs.declared.endian.Endian.{Endian}
-use Rattle.shapes.specs.Columns.{column, with_bits}
+use Rattle.shapes.specs.declared.endian.Endian.TheVariants.{Big, Little}
+use Rattle.shapes.specs.Columns.{column, column_of, with_bits}
 use Rattle.shapes.specs.Numbers.{u64_at, f64_at}
 
 -- ---- one value
@@ -55,73 +61,48 @@ nan-value e = ap₂ pair (go (le e.lo nan) e.lo) (go (le nan e.hi) e.hi)
     go true x = refl
     go false x = refl
 
--- ---- rows
+-- ---- points on their own
 
-module _ (o : Endian) (at size : ℕ) where
-  pub column-none : (n : ℕ) (b : List ℕ) (e : Pair) → n ≡ 0 → column o at size n b e ≡ e
-  unfolding column
-  column-none zero b e h = refl
-  column-none (suc n) b e h = absurd (omega arith)
+pub take-first_chunks : {X : Type 0} (s n k : ℕ) (xs : List X) → n ≤ k → take n (first_chunks s k xs) ≡ first_chunks s n xs
+take-first_chunks s zero k xs h = refl
+take-first_chunks s (suc n) zero xs h = absurd (omega arith)
+take-first_chunks s (suc n) (suc k) xs h = let h' : n ≤ k = omega arith in ap (λ l. take s xs ∷ l) (take-first_chunks s n k (drop s xs) h')
 
-  column-some : (n : ℕ) (b : List ℕ) (e : Pair) → 0 < n → column o at size n b e ≡ column o at size (n - 1) (drop size b) (with_value e (f64_at o (drop at b)))
-  unfolding column
-  column-some zero b e h = absurd (omega arith)
-  column-some (suc n) b e h =
-      let q : n ≡ suc n - 1 = omega arith in
-      ap (λ (k : ℕ). column o at size k (drop size b) (with_value e (f64_at o (drop at b)))) q
+get_or-first_chunks : {X : Type 0} (s k i : ℕ) (xs d : List X) → i < k → get_or (first_chunks s k xs) i d ≡ take s (drop (s * i) xs)
+get_or-first_chunks s zero i xs d h = absurd (omega arith)
+get_or-first_chunks s (suc k) zero xs d h = ap (λ m. take s (drop m xs)) (sym (mul-zero s))
+get_or-first_chunks s (suc k) (suc i) xs d h =
+    let h' : i < k = omega arith in
+    get_or-first_chunks s k i (drop s xs) d h' ∙ ap (take s) (drop-drop (s * i) s xs ∙ ap (λ m. drop m xs) (add_comm s (s * i) ∙ sym (mul-suc s i)))
 
-  -- one row: a' is a with the ordinate of the row more, and b' what follows the row
-  pub row : (n : ℕ) (b b' : List ℕ) (a a' all : Pair) (bits : ℕ) → 0 < n → bits ≡ u64_at o (drop at b) → a' ≡ with_bits a bits → b' ≡ drop size b → column o at size n b a ≡ all → column o at size (n - 1) b' a' ≡ all
-  unfolding f64_at
-  row n b b' a a' all bits h u g r e = ap₂ (column o at size (n - 1)) r (g ∙ ap (with_bits a) u) ∙ sym (column-some n b a h) ∙ e
+-- eight bytes of a point do not depend on what follows the point
+u64-taken : (o : Endian) (at size : ℕ) (b : List ℕ) → at + 8 ≤ size → u64_at o (drop at (take size b)) ≡ u64_at o (drop at b)
+u64-taken Big at size b h = grind (arith, get_or-take, get_or-drop)
+u64-taken Little at size b h = grind (arith, get_or-take, get_or-drop)
 
-  -- four rows
-  pub rows : (n : ℕ) (b b' : List ℕ) (a a' all : Pair) (x0 x1 x2 x3 : ℕ) → 4 ≤ n →
-      x0 ≡ u64_at o (drop at b) → x1 ≡ u64_at o (drop (at + size) b) → x2 ≡ u64_at o (drop (at + (size + size)) b) → x3 ≡ u64_at o (drop (at + (size + size + size)) b) →
-      a' ≡ with_bits (with_bits (with_bits (with_bits a x0) x1) x2) x3 → b' ≡ drop (size + size + size + size) b → column o at size n b a ≡ all → column o at size (n - 4) b' a' ≡ all
-  rows n b b' a a' all x0 x1 x2 x3 h e0 e1 e2 e3 g r e =
-      let b1 = drop size b in
-      let b2 = drop size b1 in
-      let b3 = drop size b2 in
-      let d2 : drop (size + size) b ≡ b2 = sym (drop-drop size size b) in
-      let d3 : drop (size + size + size) b ≡ b3 = sym (drop-drop size (size + size) b) ∙ ap (drop size) d2 in
-      let d4 : drop (size + size + size + size) b ≡ drop size b3 = sym (drop-drop size (size + size + size) b) ∙ ap (drop size) d3 in
-      let h0 : 0 < n = omega arith in
-      let h1 : 0 < n - 1 = omega arith in
-      let h2 : 0 < n - 1 - 1 = omega arith in
-      let h3 : 0 < n - 1 - 1 - 1 = omega arith in
-      let m : n - 4 ≡ n - 1 - 1 - 1 - 1 = omega arith in
-      let a1 = with_bits a x0 in
-      let a2 = with_bits a1 x1 in
-      let a3 = with_bits a2 x2 in
-      let s0 = row n b b1 a a1 all x0 h0 e0 refl refl e in
-      let s1 = row (n - 1) b1 b2 a1 a2 all x1 h1 (e1 ∙ ap (u64_at o) (farther size)) refl refl s0 in
-      let s2 = row (n - 1 - 1) b2 b3 a2 a3 all x2 h2 (e2 ∙ ap (u64_at o) (farther (size + size) ∙ ap (drop at) d2)) refl refl s1 in
-      let s3 = row (n - 1 - 1 - 1) b3 b' a3 a' all x3 h3 (e3 ∙ ap (u64_at o) (farther (size + size + size) ∙ ap (drop at) d3)) g (r ∙ d4) s2 in
-      ap (λ (k : ℕ). column o at size k b' a') m ∙ s3
-    where
-      farther : (s : ℕ) → drop (at + s) b ≡ drop at (drop s b)
-      farther s = ap (λ (m : ℕ). drop m b) (add_comm at s) ∙ sym (drop-drop at s b)
+module _ (o : Endian) (at : ℕ) where
+  abbrev bits : List ℕ → ℕ
+  bits p = u64_at o (drop at p)
 
--- ---- room for rows
+  -- one point more
+  pub one_more : (ps : List (List ℕ)) (i n : ℕ) (p : List ℕ) (e e' : Pair) → i < length ps → p ≡ get_or ps i p → n ≡ bits p → e ≡ column_of o at (take i ps) → e' ≡ with_bits e n → e' ≡ column_of o at (take (i + 1) ps)
+  one_more ps i n p e e' h g f q r =
+      r ∙ ap₂ with_bits q (f ∙ ap bits g) ∙ sym (fold_more (λ e p. with_bits e (bits p)) nothing ps i p h)
 
-pub room : (n s m : ℕ) → 0 < n → n * s ≤ m → (s ≤ m) × ((n - 1) * s ≤ m - s)
-room zero s m h k = absurd (omega arith)
-room (suc n) s m h k =
-    let e : n ≡ suc n - 1 = omega arith in
-    let j : suc n * s ≡ s + n * s = mul_comm (suc n) s ∙ mul-suc s n ∙ ap (λ (q : ℕ). q + s) (mul_comm s n) ∙ add_comm (n * s) s in
-    (omega arith, subst (λ (q : ℕ). q * s ≤ m - s) e (omega arith))
+  -- four points more
+  pub four_more : (ps : List (List ℕ)) (i k : ℕ) (four : List (List ℕ)) (ns : List ℕ) (e e' : Pair) → i < k → four ≡ get_or (first_chunks 4 k ps) i four → ns ≡ map bits four → e ≡ column_of o at (take (4 * i) ps) → e' ≡ fold with_bits e ns →
+      e' ≡ column_of o at (take (4 * (i + 1)) ps)
+  four_more ps i k four ns e e' h g f q r =
+      let step : Pair → List ℕ → Pair = λ e p. with_bits e (bits p) in
+      r ∙ ap₂ (fold with_bits) q (f ∙ ap (map bits) (g ∙ get_or-first_chunks 4 k i ps four h))
+      ∙ fold-map with_bits bits (column_of o at (take (4 * i) ps)) (take 4 (drop (4 * i) ps))
+      ∙ sym (fold-append step nothing (take (4 * i) ps) (take 4 (drop (4 * i) ps)))
+      ∙ ap (column_of o at) (sym (take-add (4 * i) 4 ps) ∙ ap (λ m. take m ps) (let e : 4 * i + 4 ≡ 4 * (i + 1) = omega arith in e))
 
-pub room_four : (n s m : ℕ) → 4 ≤ n → n * s ≤ m → (s + s + s + s ≤ m) × ((n - 4) * s ≤ m - (s + s + s + s))
-room_four n s m h k =
-    let h0 : 0 < n = omega arith in
-    let h1 : 0 < n - 1 = omega arith in
-    let h2 : 0 < n - 1 - 1 = omega arith in
-    let h3 : 0 < n - 1 - 1 - 1 = omega arith in
-    let e : n - 1 - 1 - 1 - 1 ≡ n - 4 = omega arith in
-    let q0 = room n s m h0 k in
-    let q1 = room (n - 1) s (m - s) h1 q0.1 in
-    let q2 = room (n - 1 - 1) s (m - s - s) h2 q1.1 in
-    let q3 = room (n - 1 - 1 - 1) s (m - s - s - s) h3 q2.1 in
-    let z : m - s - s - s - s ≡ m - (s + s + s + s) = omega arith in
-    (omega arith, subst (λ (v : ℕ). (n - 4) * s ≤ v) z (subst (λ (v : ℕ). v * s ≤ m - s - s - s - s) e q3.1))
+  -- the ordinates of n points of so many bytes are a column of their bytes
+  pub column-is : (size n : ℕ) (b : List ℕ) (e : Pair) → at + 8 ≤ size → fold (λ e p. with_bits e (bits p)) e (first_chunks size n b) ≡ column o at size n b e
+  unfolding column f64_at
+  column-is size zero b e h = refl
+  column-is size (suc n) b e h =
+      column-is size n (drop size b) (with_bits e (bits (take size b))) h
+      ∙ ap (λ m. column o at size n (drop size b) (with_bits e m)) (u64-taken o at size b h)

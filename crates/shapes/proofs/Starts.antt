@@ -33,11 +33,11 @@ code-fresh : (x : Option Code) (f : Code → Reader) (b : List ℕ) → ((c : Co
 code-fresh (Some c) f b h = h c
 code-fresh None f b h = tt
 
-joins_not : (o : Endian) (d : Dimension) (b : List ℕ) → (coord_at o d false b).joins ≡ false
-joins_not o Xy b = refl
-joins_not o Xyz b = refl
-joins_not o Xym b = refl
-joins_not o Xyzm b = refl
+pub joins_is : (o : Endian) (d : Dimension) (j : Bool) (b : List ℕ) → (coord_at o d j b).joins ≡ j
+joins_is o Xy j b = refl
+joins_is o Xyz j b = refl
+joins_is o Xym j b = refl
+joins_is o Xyzm j b = refl
 
 points-begin : (o : Endian) (d : Dimension) (n : ℕ) → Begins (points o d false n)
 unfolding points coord
@@ -47,7 +47,7 @@ points-begin o d (suc n) k h b =
     let P : Run → Type 0 = λ r. Fresh r.coords in
     elim (cases_lt (length b) (8 * width d)) [
       | inl lt ↦ subst P (sym (eights-cut (width d) next b lt)) tt
-      | inr ge ↦ subst P (sym (eights-fit (width d) next b ge)) (joins_not o d b)
+      | inr ge ↦ subst P (sym (eights-fit (width d) next b ge)) (joins_is o d false b)
     ]
 
 times-begin : (r : Reader → Reader) → Begins r → (n : ℕ) → Begins (times r n)

@@ -1,7 +1,7 @@
 -- What is written is read.
 use Rattle.std.proofs.Common.{◌≡◌, ℕ, zero, suc, ◌+◌, ◌*◌, ◌^◌, ◌<◌, ◌≤◌, Bool, true, false, eqb, List, [], ◌∷◌, ◌++◌, length, get_or, drop, Some, None, Option, sym, refl, ap, ◌∙◌, append_assoc, append-nil, arith, drop-drop}
 use lib.Ieee.{nan, binary64, of_bits}
-use Rattle.std.specs.List.{AllByRecursion}
+use Rattle.std.specs.List.{AllByRecursion, flat_map}
 use Rattle.shapes.specs.declared.endian.Endian.{Endian}
 use Rattle.shapes.specs.declared.endian.Endian.TheVariants.{Big, Little}
 use Rattle.shapes.specs.declared.code.Dimension.{Dimension}
@@ -16,7 +16,7 @@ use Rattle.shapes.specs.Numbers.{u32_at, u64_at, f64_at, coord_at, order_of}
 use Rattle.shapes.specs.Wkb.{Reader, Run, if, whole, fault, eights, coord, points, line, times, counted, give, header, with_order, with_code, body, shape, code_at, code_in, code_or, decoded, decode, levels, read, finish}
 use Rattle.shapes.proofs.Coding.{number_small, code_of-number}
 use Rattle.shapes.proofs.Reading.{whole-there}
-use Rattle.shapes.specs.Tree.{Place, Parts, points as ofPoints, lines as ofLines, polygons as ofPolygons, anything, Tree, point, line as aLine, polygon, group, Trees, none, more, kind_of_group, kind, code, many, depth, deepest, flat, bytes, order_byte, head, place, ring, written, written_all, float, coord_of, along, coords, coords_all, IsPlace, IsRing, MayHold, Good, GoodAll, WellFormed}
+use Rattle.shapes.specs.Tree.{Place, Parts, points as ofPoints, lines as ofLines, polygons as ofPolygons, anything, Tree, point, line as aLine, polygon, group, Trees, none, more, kind_of_group, kind, code, many, depth, deepest, bytes, order_byte, head, place, ring, written, written_all, float, coord_of, along, coords, coords_all, IsPlace, IsRing, MayHold, Good, GoodAll, WellFormed}
 
 -- ---- numbers
 
@@ -71,7 +71,7 @@ eight_read o m n k rest =
 
 -- the ordinates of a place
 pub eights-read : (o : Endian) (p : Place) (k : Reader) (rest : List ℕ) → eights (length p) k (place o p ++ rest) ≡ k rest
-unfolding eights flat
+unfolding eights
 eights-read o [] k rest = refl
 eights-read o (n ∷ p) k rest =
     ap (eights (suc (length p)) k) (append_assoc (bytes o 8 n) (place o p) rest)
@@ -90,7 +90,6 @@ counted-read o r n k w h =
 
 module _ (o : Endian) (rest : List ℕ) where
   step-8 : (i n : ℕ) (p : Place) → drop (8 * suc i) (place o (n ∷ p) ++ rest) ≡ drop (8 * i) (place o p ++ rest)
-  unfolding flat
   step-8 i n p =
       let e : 8 * suc i ≡ 8 + 8 * i = omega arith in
       ap (λ m. drop m (place o (n ∷ p) ++ rest)) e
@@ -99,12 +98,10 @@ module _ (o : Endian) (rest : List ℕ) where
       ∙ ap (drop (8 * i)) (skip_8 o n (place o p ++ rest))
 
   pub skip_place : (p : Place) → drop (8 * length p) (place o p ++ rest) ≡ rest
-  unfolding flat
   skip_place [] = refl
   skip_place (n ∷ p) = step-8 (length p) n p ∙ skip_place p
 
   ordinate_read : (p : Place) (i : ℕ) → i < length p → AllByRecursion (λ n. n < 2 ^ 64) p → f64_at o (drop (8 * i) (place o p ++ rest)) ≡ float (get_or p i 0)
-  unfolding flat
   ordinate_read [] i l h = absurd (omega arith)
   ordinate_read (n ∷ p) zero l h = ap (f64_at o) (append_assoc (bytes o 8 n) (place o p) rest) ∙ f64_read o n (place o p ++ rest) h.0
   ordinate_read (n ∷ p) (suc i) l h = ap (f64_at o) (step-8 i n p) ∙ ordinate_read p i (omega arith) h.1
@@ -143,32 +140,32 @@ module _ (o : Endian) (d : Dimension) where
       ∙ ap (λ c. give c (k (drop (8 * width d) b))) (coord_at-read o rest d j p h)
       ∙ ap (λ c. give (coord_of d j p) (k c)) after
 
-  pub points-read : (j : Bool) (ps : List Place) → AllByRecursion (IsPlace d) ps → Reads (points o d j (length ps)) (flat (place o) ps) (along d j ps)
-  unfolding points flat along
+  pub points-read : (j : Bool) (ps : List Place) → AllByRecursion (IsPlace d) ps → Reads (points o d j (length ps)) (flat_map (place o) ps) (along d j ps)
+  unfolding points along
   points-read j [] h k rest = refl
   points-read j (p ∷ ps) h k rest =
-      ap (coord o d j (points o d true (length ps) k)) (append_assoc (place o p) (flat (place o) ps) rest)
-      ∙ coord-read j p h.0 (points o d true (length ps) k) (flat (place o) ps ++ rest)
+      ap (coord o d j (points o d true (length ps) k)) (append_assoc (place o p) (flat_map (place o) ps) rest)
+      ∙ coord-read j p h.0 (points o d true (length ps) k) (flat_map (place o) ps ++ rest)
       ∙ ap (give (coord_of d j p)) (points-read true ps h.1 k rest)
 
   pub line_read : (ps : List Place) → IsRing d ps → Reads (line o d) (ring o ps) (along d false ps)
   line_read ps h k rest =
-      ap (line o d k) (append_assoc (bytes o 4 (length ps)) (flat (place o) ps) rest)
-      ∙ counted-read o (points o d false) (length ps) k (flat (place o) ps ++ rest) h.0
+      ap (line o d k) (append_assoc (bytes o 4 (length ps)) (flat_map (place o) ps) rest)
+      ∙ counted-read o (points o d false) (length ps) k (flat_map (place o) ps ++ rest) h.0
       ∙ points-read false ps h.1 k rest
 
 prepend-twice : (xs ys : List Coord) (r : Run) → prepend xs (prepend ys r) ≡ prepend (xs ++ ys) r
 prepend-twice xs ys r = ap (λ cs. record { coords = cs; ending = r.ending }) (sym (append_assoc xs ys r.coords))
 
 module _ {A : Type 0} (r : Reader → Reader) (P : A → Type 0) (f : A → List ℕ) (g : A → List Coord) (one : (a : A) → P a → Reads r (f a) (g a)) where
-  pub times-read : (l : List A) → AllByRecursion P l → Reads (times r (length l)) (flat f l) (flat g l)
-  unfolding times flat
+  pub times-read : (l : List A) → AllByRecursion P l → Reads (times r (length l)) (flat_map f l) (flat_map g l)
+  unfolding times
   times-read [] h k rest = refl
   times-read (a ∷ l) h k rest =
-      ap (r (times r (length l) k)) (append_assoc (f a) (flat f l) rest)
-      ∙ one a h.0 (times r (length l) k) (flat f l ++ rest)
+      ap (r (times r (length l) k)) (append_assoc (f a) (flat_map f l) rest)
+      ∙ one a h.0 (times r (length l) k) (flat_map f l ++ rest)
       ∙ ap (prepend (g a)) (times-read l h.1 k rest)
-      ∙ prepend-twice (g a) (flat g l) (k rest)
+      ∙ prepend-twice (g a) (flat_map g l) (k rest)
 
 -- ---- headers
 
@@ -238,9 +235,9 @@ aline_read : (o : Endian) (d : Dimension) (part : Reader → Reader) (ps : List 
 unfolding body
 aline_read o d part ps h = line_read o d ps h
 
-polygon-read : (o : Endian) (d : Dimension) (part : Reader → Reader) (rs : List (List Place)) → length rs < 2 ^ 32 → AllByRecursion (IsRing d) rs → Reads (body o d part Polygon) (bytes o 4 (length rs) ++ flat (ring o) rs) (flat (along d false) rs)
+polygon-read : (o : Endian) (d : Dimension) (part : Reader → Reader) (rs : List (List Place)) → length rs < 2 ^ 32 → AllByRecursion (IsRing d) rs → Reads (body o d part Polygon) (bytes o 4 (length rs) ++ flat_map (ring o) rs) (flat_map (along d false) rs)
 unfolding body
-polygon-read o d part rs l h = many_read o (line o d) (length rs) (flat (ring o) rs) (flat (along d false) rs) l (times-read (line o d) (IsRing d) (ring o) (along d false) (line_read o d) rs h)
+polygon-read o d part rs l h = many_read o (line o d) (length rs) (flat_map (ring o) rs) (flat_map (along d false) rs) l (times-read (line o d) (IsRing d) (ring o) (along d false) (line_read o d) rs h)
 
 mutual
   unfolding Good depth written coords times
@@ -251,7 +248,7 @@ mutual
   tree-read (aLine o ps) zero outer d h e f = absurd (omega arith)
   tree-read (aLine o ps) (suc l) outer d h e f = shape-read l outer d o Line (ring o ps) (along d false ps) f (aline_read o d (shape l (Some (record { kind = Line; dim = d }))) ps h)
   tree-read (polygon o rs) zero outer d h e f = absurd (omega arith)
-  tree-read (polygon o rs) (suc l) outer d h e f = shape-read l outer d o Polygon (bytes o 4 (length rs) ++ flat (ring o) rs) (flat (along d false) rs) f (polygon-read o d (shape l (Some (record { kind = Polygon; dim = d }))) rs h.0 h.1)
+  tree-read (polygon o rs) (suc l) outer d h e f = shape-read l outer d o Polygon (bytes o 4 (length rs) ++ flat_map (ring o) rs) (flat_map (along d false) rs) f (polygon-read o d (shape l (Some (record { kind = Polygon; dim = d }))) rs h.0 h.1)
   tree-read (group o g ts) zero outer d h e f = absurd (omega arith)
   tree-read (group o g ts) (suc l) outer d h e f =
       let part : Reader → Reader = shape l (Some (record { kind = kind_of_group g; dim = d })) in
@@ -282,7 +279,7 @@ pub code_at-written : (d : Dimension) (tr : Tree) → code_at (written d tr) ≡
 unfolding written
 code_at-written d (point o p) = code_at-head d o Point (place o p)
 code_at-written d (aLine o ps) = code_at-head d o Line (ring o ps)
-code_at-written d (polygon o rs) = code_at-head d o Polygon (bytes o 4 (length rs) ++ flat (ring o) rs)
+code_at-written d (polygon o rs) = code_at-head d o Polygon (bytes o 4 (length rs) ++ flat_map (ring o) rs)
 code_at-written d (group o g ts) = code_at-head d o (kind_of_group g) (bytes o 4 (many ts) ++ written_all d ts)
 
 pub written-is_read : (d : Dimension) (t : Tree) → WellFormed d t → decode (written d t) ≡ read (code d t) (coords d t)

@@ -1,10 +1,11 @@
 -- The type codes: seven kinds of shape in four dimensions.
-use Rattle.std.specs.Prelude.{ℕ, ◌+◌, ◌*◌, ◌/◌, ◌%◌, Bool, true, cond, ◌&&◌, ◌||◌, Some, None, Option, ◌==◌}
+use Rattle.std.specs.Prelude.{◌≡◌, ℕ, ◌+◌, ◌*◌, ◌/◌, ◌%◌, Bool, true, cond, ◌&&◌, ◌||◌, Some, None, Option, Result, MatchResult, ◌==◌}
 use Rattle.shapes.specs.declared.code.Kind.{Kind}
 use Rattle.shapes.specs.declared.code.Kind.TheVariants.{Point, Line, Polygon, MultiPoint, MultiLine, MultiPolygon, Collection}
 use Rattle.shapes.specs.declared.code.Dimension.{Dimension}
 use Rattle.shapes.specs.declared.code.Dimension.TheVariants.{Xy, Xyz, Xym, Xyzm}
 use Rattle.shapes.specs.declared.code.Code.{Code}
+use Rattle.shapes.specs.declared.code.UnknownCode.{UnknownCode}
 
 abbrev pub kind_number : Kind → ℕ
 kind_number Point = 1
@@ -53,6 +54,10 @@ code_from None d = None
 
 abbrev pub code_of : ℕ → Option Code
 code_of n = code_from (kind_of (n % 1000)) (dim_of (n / 1000))
+
+-- the answer r is what the number n stands for, if there is such a thing, or else an error with n
+abbrev pub Reads : {A : Type 0} → Option A → ℕ → Result A UnknownCode → Type 0
+Reads o n r = MatchResult r (λ a. o ≡ Some a) (λ e. (o ≡ None) × (e.0 ≡ n))
 
 -- ---- parts
 

@@ -6,8 +6,6 @@ use Rattle.shapes.specs.declared.code.Kind.{Kind}
 use Rattle.shapes.specs.declared.coord.Coord.{Coord}
 use Rattle.shapes.specs.declared.hulls.Hulls.{Hulls}
 use Rattle.shapes.specs.declared.state.Cursor.{Cursor}
-use Rattle.shapes.specs.declared.state.Step.{Step}
-use Rattle.shapes.specs.declared.state.Step.TheVariants.{Ready, Moved, Over}
 use Rattle.shapes.specs.Wkb.{body, shape}
 use Rattle.shapes.specs.Hulls.{four, none, with_all}
 use Rattle.shapes.specs.Pending.{parts, still}
@@ -16,6 +14,11 @@ use Rattle.shapes.specs.Source.{InBinary64}
 -- what falls with each step
 abbrev pub effort : Cursor → ℕ
 effort s = length s.rest.now + s.depth
+
+-- no ring and no point of a shape is to come
+pub record Between (s : Cursor) : Type 0 where
+  pub rings : slice_index s.counts 31 ≡ 0
+  pub points : slice_index s.counts 32 ≡ 0
 
 -- b is the cursor a moved on, with no coordinate given
 pub record Moves (a b : Cursor) : Type 0 where
@@ -34,11 +37,6 @@ pub record Enters (a b : Cursor) (o : Endian) (q : Kind) (after : List ℕ) : Ty
   pub less : effort b ≤ length after + a.depth + 1
   pub shorter : length b.rest.now ≤ length after
   pub code : b.code ≡ a.code
-
-abbrev pub Stepped : Step → Cursor → Cursor → Type 0
-Stepped Ready a b = (b ≡ a) × (0 < slice_index a.counts 32)
-Stepped Moved a b = Moves a b
-Stepped Over a b = still a ≡ []
 
 -- b is the cursor a moved on to its next coordinate
 pub record Settles (a b : Cursor) : Type 0 where

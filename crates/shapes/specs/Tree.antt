@@ -1,7 +1,7 @@
 -- Shapes as trees, what each is written as, and the law that bytes are read exactly when they are a writing of a tree.
 use Rattle.std.specs.Prelude.{◌≡◌, ℕ, zero, suc, ◌/◌, ◌%◌, ◌^◌, ◌<◌, ◌≤◌, max, Bool, true, false, List, [], ◌∷◌, ◌++◌, reverse, length, from_bits, slice_index, Float}
 use Rattle.std.specs.Float.{nan, binary64}
-use Rattle.std.specs.List.{AllByRecursion}
+use Rattle.std.specs.List.{AllByRecursion, flat_map}
 use Rattle.shapes.specs.declared.endian.Endian.{Endian}
 use Rattle.shapes.specs.declared.endian.Endian.TheVariants.{Big, Little}
 use Rattle.shapes.specs.declared.code.Kind.{Kind}
@@ -68,11 +68,6 @@ unfoldable mutual
 
 -- ---- what a tree is written as
 
--- the results of f, one after the other
-unfoldable pub flat : {A B : Type 0} → (A → List B) → List A → List B
-flat f [] = []
-flat f (a ∷ l) = f a ++ flat f l
-
 -- n in w bytes, the least significant first
 abbrev pub little : ℕ → ℕ → List ℕ
 little zero n = []
@@ -90,17 +85,17 @@ unfoldable pub head : Dimension → Endian → Kind → List ℕ
 head d o k = order_byte o ∷ bytes o 4 (code_number (record { kind = k; dim = d }))
 
 abbrev pub place : Endian → Place → List ℕ
-place o = flat (bytes o 8)
+place o = flat_map (bytes o 8)
 
 -- a count and so many places
 abbrev pub ring : Endian → List Place → List ℕ
-ring o ps = bytes o 4 (length ps) ++ flat (place o) ps
+ring o ps = bytes o 4 (length ps) ++ flat_map (place o) ps
 
 unfoldable mutual
   pub written : Dimension → Tree → List ℕ
   written d (point o p) = head d o Point ++ place o p
   written d (line o ps) = head d o Line ++ ring o ps
-  written d (polygon o rs) = head d o Polygon ++ (bytes o 4 (length rs) ++ flat (ring o) rs)
+  written d (polygon o rs) = head d o Polygon ++ (bytes o 4 (length rs) ++ flat_map (ring o) rs)
   written d (group o g ts) = head d o (kind_of_group g) ++ (bytes o 4 (many ts) ++ written_all d ts)
 
   pub written_all : Dimension → Trees → List ℕ
@@ -127,7 +122,7 @@ unfoldable mutual
   pub coords : Dimension → Tree → List Coord
   coords d (point o p) = coord_of d false p ∷ []
   coords d (line o ps) = along d false ps
-  coords d (polygon o rs) = flat (along d false) rs
+  coords d (polygon o rs) = flat_map (along d false) rs
   coords d (group o g ts) = coords_all d ts
 
   pub coords_all : Dimension → Trees → List Coord

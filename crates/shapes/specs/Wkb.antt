@@ -12,6 +12,7 @@ use Rattle.shapes.specs.declared.code.Dimension.{Dimension}
 use Rattle.shapes.specs.declared.code.Dimension.TheVariants.{Xy}
 use Rattle.shapes.specs.declared.code.Code.{Code}
 use Rattle.shapes.specs.declared.coord.Coord.{Coord}
+use Rattle.shapes.specs.declared.stop.Stop.{Stop}
 use Rattle.shapes.specs.Codes.{code_of, width, fits}
 use Rattle.shapes.specs.Numbers.{order_of, u32_at, coord_at}
 
@@ -147,32 +148,31 @@ coords_in b = (run_of b).coords
 abbrev pub decode : List ℕ → Decoded
 decode b = decoded (length b) (run_of b).ending (code_at b) (coords_in b)
 
--- ---- what a check of the bytes b says of a reader: it goes on with rest, or it stops at this fault
+-- ---- what a check of the bytes b says of a reader: it goes on with rest, or it stops
+
+-- a stop with the bytes b left
+abbrev pub before : Cause → List ℕ → Stop
+before c b = record { cause = c; left = length b }
 
 abbrev pub Passes : (Reader → Reader) → List ℕ → List ℕ → Type 0
 Passes r b rest = (k : Reader) → (r k b).ending ≡ (k rest).ending
 
--- t is the length of all bytes, of which b are the last
-pub record Fails (t : ℕ) (r : Reader → Reader) (b : List ℕ) (f : Fault) : Type 0 where
-  pub cause : Cause
-  pub left : ℕ
-  pub place : f ≡ placed t cause left
-  pub stops : (k : Reader) → (r k b).ending ≡ stop cause left
+pub record Fails (r : Reader → Reader) (b : List ℕ) (s : Stop) : Type 0 where
+  pub within : s.left ≤ length b
+  pub stops : (k : Reader) → (r k b).ending ≡ stop s.cause s.left
 
--- the answer of a check: what follows what the reader reads, or the fault
-abbrev pub Follows : ℕ → (Reader → Reader) → List ℕ → Result (Bor (List ℕ)) Fault → Type 0
-Follows t r b x = MatchResult x (λ rest. (length rest.now ≤ length b) × Passes r b rest.now) (λ f. Fails t r b f)
+-- the answer of a check: what follows what the reader reads, or where it stops
+abbrev pub Follows : (Reader → Reader) → List ℕ → Result (Bor (List ℕ)) Stop → Type 0
+Follows r b x = MatchResult x (λ rest. (length rest.now ≤ length b) × Passes r b rest.now) (λ s. Fails r b s)
 
 -- of n coordinates, in whichever byte order and whether or not the first joins
-abbrev pub PointsFollow : ℕ → Dimension → ℕ → List ℕ → Result (Bor (List ℕ)) Fault → Type 0
-PointsFollow t d n b x = (o : Endian) (j : Bool) → Follows t (points o d j n) b x
+abbrev pub PointsFollow : Dimension → ℕ → List ℕ → Result (Bor (List ℕ)) Stop → Type 0
+PointsFollow d n b x = (o : Endian) (j : Bool) → Follows (points o d j n) b x
 
 -- a header that is there, with what follows it, and one that is not
 abbrev pub Headed : Option Code → List ℕ → Endian → Code → List ℕ → Type 0
 Headed outer b o c rest = (f : Endian → Code → Reader) → header outer f b ≡ f o c rest
 
-pub record Unheaded (t : ℕ) (outer : Option Code) (b : List ℕ) (f : Fault) : Type 0 where
-  pub cause : Cause
-  pub left : ℕ
-  pub place : f ≡ placed t cause left
-  pub stops : (g : Endian → Code → Reader) → header outer g b ≡ record { coords = []; ending = stop cause left }
+pub record Unheaded (outer : Option Code) (b : List ℕ) (s : Stop) : Type 0 where
+  pub within : s.left ≤ length b
+  pub stops : (g : Endian → Code → Reader) → header outer g b ≡ record { coords = []; ending = stop s.cause s.left }

@@ -2,7 +2,10 @@
 ghost use Rattle.std.specs.Prelude.{◌≡◌};
 ghost use Rattle.shapes.specs.Codes as Codes;
 
-#[derive(Clone, Copy)]
+use std::error::Error;
+use std::fmt;
+
+#[derive(Clone, Copy, PartialEq, Eq, Debug)]
 pub enum Kind {
     Point,
     Line,
@@ -13,7 +16,7 @@ pub enum Kind {
     Collection,
 }
 
-#[derive(Clone, Copy)]
+#[derive(Clone, Copy, PartialEq, Eq, Debug)]
 pub enum Dimension {
     Xy,
     Xyz,
@@ -21,18 +24,22 @@ pub enum Dimension {
     Xyzm,
 }
 
-#[derive(Clone, Copy)]
+#[derive(Clone, Copy, PartialEq, Eq, Debug)]
 pub struct Code {
     pub kind: Kind,
     pub dim: Dimension,
 }
 
-impl Kind {
-    // 1 to 7.
-    pub fn number(self) -> u32
-        ensures { result ≡ Codes.kind_number self }
-    {
-        match self {
+// A number that stands for no code, no kind or no dimension.
+#[derive(Clone, Copy, PartialEq, Eq, Debug)]
+pub struct UnknownCode(pub u32);
+
+// 1 to 7.
+impl From<Kind> for u32 {
+    ghost from_gives = { λ kind n. n ≡ Codes.kind_number kind };
+
+    fn from(kind: Kind) -> u32 {
+        match kind {
             Kind::Point => 1,
             Kind::Line => 2,
             Kind::Polygon => 3,
@@ -42,56 +49,73 @@ impl Kind {
             Kind::Collection => 7,
         }
     }
+}
 
-    fn from_number(n: u32) -> Option<Kind>
-        ensures { result ≡ Codes.kind_of n }
-    {
+impl TryFrom<u32> for Kind {
+    type Error = UnknownCode;
+
+    ghost try_from_gives = { λ n r. Codes.Reads (Codes.kind_of n) n r };
+
+    fn try_from(n: u32) -> Result<Kind, UnknownCode> {
         match n {
-            1 => Some(Kind::Point),
-            2 => Some(Kind::Line),
-            3 => Some(Kind::Polygon),
-            4 => Some(Kind::MultiPoint),
-            5 => Some(Kind::MultiLine),
-            6 => Some(Kind::MultiPolygon),
-            7 => Some(Kind::Collection),
-            _ => None,
+            1 => Ok(Kind::Point),
+            2 => Ok(Kind::Line),
+            3 => Ok(Kind::Polygon),
+            4 => Ok(Kind::MultiPoint),
+            5 => Ok(Kind::MultiLine),
+            6 => Ok(Kind::MultiPolygon),
+            7 => Ok(Kind::Collection),
+            _ => Err(UnknownCode(n)),
         }
     }
+}
 
+impl Kind {
     // Whether a container of this kind takes parts of that kind.
     fn takes(self, part: Kind) -> bool
         ensures { result ≡ Codes.takes self part }
     {
-        let n = self.number();
-        n == 7 || n == part.number() + 3
+        matches!(
+            (self, part),
+            (Kind::Collection, _)
+                | (Kind::MultiPoint, Kind::Point)
+                | (Kind::MultiLine, Kind::Line)
+                | (Kind::MultiPolygon, Kind::Polygon)
+        )
     }
 }
 
-impl Dimension {
-    // How many thousands it adds to a code: 0 to 3.
-    pub fn number(self) -> u32
-        ensures { result ≡ Codes.dim_number self }
-    {
-        match self {
+// How many thousands it adds to a code: 0 to 3.
+impl From<Dimension> for u32 {
+    ghost from_gives = { λ dim n. n ≡ Codes.dim_number dim };
+
+    fn from(dim: Dimension) -> u32 {
+        match dim {
             Dimension::Xy => 0,
             Dimension::Xyz => 1,
             Dimension::Xym => 2,
             Dimension::Xyzm => 3,
         }
     }
+}
 
-    fn from_number(n: u32) -> Option<Dimension>
-        ensures { result ≡ Codes.dim_of n }
-    {
+impl TryFrom<u32> for Dimension {
+    type Error = UnknownCode;
+
+    ghost try_from_gives = { λ n r. Codes.Reads (Codes.dim_of n) n r };
+
+    fn try_from(n: u32) -> Result<Dimension, UnknownCode> {
         match n {
-            0 => Some(Dimension::Xy),
-            1 => Some(Dimension::Xyz),
-            2 => Some(Dimension::Xym),
-            3 => Some(Dimension::Xyzm),
-            _ => None,
+            0 => Ok(Dimension::Xy),
+            1 => Ok(Dimension::Xyz),
+            2 => Ok(Dimension::Xym),
+            3 => Ok(Dimension::Xyzm),
+            _ => Err(UnknownCode(n)),
         }
     }
+}
 
+impl Dimension {
     // The ordinates of one coordinate.
     pub(crate) fn width(self) -> usize
         ensures { result ≡ Codes.width self }
@@ -105,29 +129,44 @@ impl Dimension {
     }
 }
 
+impl From<Code> for u32 {
+    ghost from_gives = { λ code n. n ≡ Codes.code_number code };
+
+    fn from(code: Code) -> u32 {
+        u32::from(code.kind) + 1000 * u32::from(code.dim)
+    }
+}
+
+// The code that a number is, if it is one of the 28.
+impl TryFrom<u32> for Code {
+    type Error = UnknownCode;
+
+    ghost try_from_gives = { λ n r. Codes.Reads (Codes.code_of n) n r };
+
+    fn try_from(n: u32) -> Result<Code, UnknownCode> {
+        match (Kind::try_from(n % 1000), Dimension::try_from(n / 1000)) {
+            (Ok(kind), Ok(dim)) => Ok(Code { kind, dim }),
+            _ => Err(UnknownCode(n)),
+        }
+    }
+}
+
 impl Code {
-    pub fn number(self) -> u32
-        ensures { result ≡ Codes.code_number self }
-    {
-        self.kind.number() + 1000 * self.dim.number()
-    }
-
-    // The code that a number is, if it is one of the 28.
-    pub fn from_number(n: u32) -> Option<Code>
-        ensures { result ≡ Codes.code_of n }
-    {
-        let kind = Kind::from_number(n % 1000)?;
-        let dim = Dimension::from_number(n / 1000)?;
-        Some(Code { kind, dim })
-    }
-
     // Whether a shape of this code may stand in a container of that code, or outermost.
     pub(crate) fn fits_in(self, outer: Option<Code>) -> bool
         ensures { result ≡ Codes.fits outer self }
     {
         match outer {
             None => true,
-            Some(o) => o.kind.takes(self.kind) && o.dim.number() == self.dim.number(),
+            Some(o) => o.kind.takes(self.kind) && o.dim == self.dim,
         }
     }
 }
+
+impl fmt::Display for UnknownCode {
+    fn fmt<W: fmt::Write>(&self, f: &mut fmt::Formatter<W>) -> fmt::Result {
+        write!(f, "no shape has code {}", self.0)
+    }
+}
+
+impl Error for UnknownCode {}

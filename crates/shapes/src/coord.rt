@@ -1,6 +1,6 @@
 // A coordinate of a shape.
 ghost use Rattle.std.specs.Prelude.{◌≡◌};
-ghost use Rattle.shapes.specs.Source.{exchange, height_on, measure_on, on_axes};
+ghost use Rattle.shapes.specs.Source.{exchange, on_axes};
 
 use crate::code::Dimension;
 
@@ -14,30 +14,6 @@ pub struct Coord {
     pub joins: bool,
 }
 
-// z, or NaN where the dimension lacks it.
-fn height(dim: Dimension, z: f64) -> f64
-    ensures { result ≡ height_on dim z }
-{
-    match dim {
-        Dimension::Xy => f64::NAN,
-        Dimension::Xyz => z,
-        Dimension::Xym => f64::NAN,
-        Dimension::Xyzm => z,
-    }
-}
-
-// m, or NaN where the dimension lacks it.
-fn measure(dim: Dimension, m: f64) -> f64
-    ensures { result ≡ measure_on dim m }
-{
-    match dim {
-        Dimension::Xy => f64::NAN,
-        Dimension::Xyz => f64::NAN,
-        Dimension::Xym => m,
-        Dimension::Xyzm => m,
-    }
-}
-
 impl Coord {
     // The same with x and y exchanged.
     pub(crate) fn exchanged(self) -> Coord
@@ -46,24 +22,21 @@ impl Coord {
         Coord {
             x: self.y,
             y: self.x,
-            z: self.z,
-            m: self.m,
-            joins: self.joins,
+            ..self
         }
     }
 
     // The same with NaN on the axes that the dimension lacks.
+    #[tactic(auto, using(crate::proofs::Ordinates::nan_is))]
     pub(crate) fn on_axes(self, dim: Dimension) -> Coord
         ensures { result ≡ on_axes dim self }
     {
-        let z = height(dim, self.z);
-        let m = measure(dim, self.m);
-        Coord {
-            x: self.x,
-            y: self.y,
-            z,
-            m,
-            joins: self.joins,
-        }
+        let (z, m) = match dim {
+            Dimension::Xy => (f64::NAN, f64::NAN),
+            Dimension::Xyz => (self.z, f64::NAN),
+            Dimension::Xym => (f64::NAN, self.m),
+            Dimension::Xyzm => (self.z, self.m),
+        };
+        Coord { z, m, ..self }
     }
 }

@@ -1,8 +1,8 @@
 // A source over checked bytes: a cursor with a fixed stack of pending counts.
-ghost use Rattle.std.specs.Prelude.{◌≡◌, ◌+◌, ◌-◌, ◌*◌, ◌/◌, ◌<◌, ◌≤◌, true, [], length, MatchBool, slice_index};
+ghost use Rattle.std.specs.Prelude.{◌≡◌, ◌+◌, ◌-◌, ◌*◌, ◌/◌, ◌<◌, ◌≤◌, true, [], length, MatchOption, slice_index};
 ghost use Rattle.shapes.specs.Codes.{takes};
 ghost use Rattle.shapes.specs.Pending.{still, shape_of, Opens};
-ghost use Rattle.shapes.specs.Steps.{entered, Moves, Enters, Stepped, Settles, Gave, TookRun};
+ghost use Rattle.shapes.specs.Steps.{entered, Between, Moves, Enters, Settles, Gave, TookRun};
 
 use crate::code::{Code, Dimension, Kind};
 use crate::columns::hulls_of_points;
@@ -11,7 +11,7 @@ use crate::endian::Endian;
 use crate::fields::{coordinate, count, header};
 use crate::hulls::Hulls;
 use crate::source::ShapeSource;
-use crate::state::{Cursor, Step};
+use crate::state::Cursor;
 use crate::wkb::Checked;
 
 // The places of the last two counts.
@@ -37,158 +37,108 @@ impl<'a> Cursor<'a> {
             depth: 0,
             counts: [0; 33],
         };
-        let Ok((order, code, after)) = header(bytes, bytes.len(), None) else {
+        let Ok((order, code, after)) = header(bytes, None) else {
             return s;
         };
         s.code = code;
-        let none = s;
-        if !s.enter(order, code.kind, after) {
-            return none;
-        }
+        s.enter(order, code.kind, after);
         s
     }
 
-    // Leaves a container that has no more parts.
-    fn pop(&mut self)
-        requires deep { 0 < self.old.depth }
-        requires done { slice_index self.old.counts (self.old.depth - 1) ≡ 0 }
-        requires rings { slice_index self.old.counts 31 ≡ 0 }
-        requires points { slice_index self.old.counts 32 ≡ 0 }
-        ensures { Moves self.old self.new }
-    {
-        self.depth -= 1;
-        self.inner = Kind::Collection;
-    }
-
-    // Begins the next ring; false where its count is cut.
-    fn start_ring(&mut self) -> bool
+    // Begins the next ring; none where its count is cut.
+    fn start_ring(&mut self) -> Option<()>
         requires rings { 0 < slice_index self.old.counts 31 }
         requires points { slice_index self.old.counts 32 ≡ 0 }
-        ensures { MatchBool result (Moves self.old self.new) (still self.old ≡ []) }
+        ensures { MatchOption result (still self.old ≡ []) (λ _. Moves self.old self.new) }
     {
-        match count(self.rest, self.rest.len(), self.order) {
-            Ok((n, rest)) => {
-                self.rest = rest;
-                self.counts[RINGS] -= 1;
-                self.counts[POINTS] = n;
-                self.joins = false; // the first point of a ring joins nothing
-                true
-            }
-            Err(_) => false,
-        }
+        let (n, rest) = count(self.rest, self.order).ok()?;
+        self.rest = rest;
+        self.counts[RINGS] -= 1;
+        self.counts[POINTS] = n;
+        self.joins = false; // the first point of a ring joins nothing
+        Some(())
     }
 
-    // Begins a shape of this kind whose header was read; false where it has no coordinate for a fault.
-    fn enter(&mut self, order: Endian, kind: Kind, after: &'a [u8]) -> bool
-        requires rings { slice_index self.old.counts 31 ≡ 0 }
-        requires points { slice_index self.old.counts 32 ≡ 0 }
+    // Begins a shape of this kind whose header was read; none, and nothing altered, where it has no coordinate for a fault.
+    fn enter(&mut self, order: Endian, kind: Kind, after: &'a [u8]) -> Option<()>
+        requires between { Between self.old }
         requires fitting { 0 < self.old.depth → takes self.old.inner kind ≡ true }
-        ensures { MatchBool result (Enters self.old self.new order kind after.now) (entered self.old order kind after.now ≡ []) }
+        ensures { MatchOption result ((entered self.old order kind after.now ≡ []) × (shape_of self.new ≡ shape_of self.old)) (λ _. Enters self.old self.new order kind after.now) }
     {
-        if let Kind::Point = kind {
-            self.rest = after;
-            self.order = order;
-            self.joins = false;
-            self.counts[POINTS] = 1;
-            return true;
-        }
-        match count(after, after.len(), order) {
-            Ok((n, rest)) => match kind {
-                Kind::Point | Kind::Line => {
-                    self.rest = rest;
-                    self.order = order;
-                    self.joins = false;
-                    self.counts[POINTS] = n;
-                    true
-                }
-                Kind::Polygon => {
-                    self.rest = rest;
-                    self.order = order;
-                    self.counts[RINGS] = n;
-                    true
-                }
-                _ => {
-                    if n == 0 {
-                        self.rest = rest;
-                        true
-                    } else if self.depth < RINGS {
-                        let d = self.depth;
-                        self.rest = rest;
-                        self.counts[d] = n;
-                        self.depth = d + 1;
-                        self.inner = kind;
-                        true
-                    } else {
-                        false
-                    }
-                }
-            },
-            Err(_) => false,
+        let (n, rest) = match kind {
+            Kind::Point => (1, after), // a point has no count
+            _ => count(after, order).ok()?,
+        };
+        match kind {
+            Kind::Point | Kind::Line => {
+                self.rest = rest;
+                self.order = order;
+                self.joins = false;
+                self.counts[POINTS] = n;
+                Some(())
+            }
+            Kind::Polygon => {
+                self.rest = rest;
+                self.order = order;
+                self.counts[RINGS] = n;
+                Some(())
+            }
+            _ if n == 0 => {
+                self.rest = rest;
+                Some(())
+            }
+            _ if self.depth < RINGS => {
+                self.rest = rest;
+                self.counts[self.depth] = n;
+                self.depth += 1;
+                self.inner = kind;
+                Some(())
+            }
+            _ => None, // too deep
         }
     }
 
-    // Begins the next part of the innermost container; false where it has no coordinate for a fault.
-    fn start_part(&mut self) -> bool
+    // Begins the next part of the innermost container; none where it has no coordinate for a fault.
+    fn start_part(&mut self) -> Option<()>
         requires deep { 0 < self.old.depth }
         requires more { 0 < slice_index self.old.counts (self.old.depth - 1) }
-        requires rings { slice_index self.old.counts 31 ≡ 0 }
-        requires points { slice_index self.old.counts 32 ≡ 0 }
-        ensures { MatchBool result (Moves self.old self.new) (still self.old ≡ []) }
+        requires between { Between self.old }
+        ensures { MatchOption result (still self.old ≡ []) (λ _. Moves self.old self.new) }
     {
         let outer = Code {
             kind: self.inner,
             dim: self.code.dim,
         };
-        match header(self.rest, self.rest.len(), Some(outer)) {
-            Ok((order, code, after)) => {
-                let d = self.depth - 1;
-                self.counts[d] -= 1;
-                self.enter(order, code.kind, after)
-            }
-            Err(_) => false,
-        }
+        let (order, code, after) = header(self.rest, Some(outer)).ok()?;
+        self.counts[self.depth - 1] -= 1;
+        self.enter(order, code.kind, after)
     }
 
-    // One step towards the next coordinate.
-    fn step(&mut self) -> Step
-        ensures { Stepped result self.old self.new }
+    // Moves on from a line, a ring or a container that is at its end; none where nothing is to come.
+    fn step(&mut self) -> Option<()>
+        requires { slice_index self.old.counts 32 ≡ 0 }
+        ensures { MatchOption result (still self.old ≡ []) (λ _. Moves self.old self.new) }
     {
-        if self.counts[POINTS] > 0 {
-            return Step::Ready;
-        }
         if self.counts[RINGS] > 0 {
-            return if self.start_ring() {
-                Step::Moved
-            } else {
-                Step::Over
-            };
+            return self.start_ring();
         }
-        if self.depth == 0 {
-            return Step::Over;
+        let innermost = self.depth.checked_sub(1)?;
+        if self.counts[innermost] > 0 {
+            return self.start_part();
         }
-        let d = self.depth - 1;
-        if self.counts[d] == 0 {
-            self.pop();
-            return Step::Moved;
-        }
-        if self.start_part() {
-            Step::Moved
-        } else {
-            Step::Over
-        }
+        self.depth = innermost;
+        self.inner = Kind::Collection;
+        Some(())
     }
 
-    // Goes to the next coordinate; false where there is none.
-    fn settle(&mut self) -> bool
-        ensures { MatchBool result (Settles self.old self.new) (still self.old ≡ []) }
+    // Goes to the next coordinate; none where there is none.
+    fn settle(&mut self) -> Option<()>
+        ensures { MatchOption result (still self.old ≡ []) (λ _. Settles self.old self.new) }
     {
-        loop {
-            match self.step() {
-                Step::Ready => return true,
-                Step::Moved => {}
-                Step::Over => return false,
-            }
+        while self.counts[POINTS] == 0 {
+            self.step()?;
         }
+        Some(())
     }
 
     // Takes the coordinate that a settled cursor stands at; none where it is cut.
@@ -196,12 +146,9 @@ impl<'a> Cursor<'a> {
         requires { 0 < slice_index self.old.counts 32 }
         ensures { Gave result self.old self.new }
     {
-        let size = 8 * self.code.dim.width();
-        if self.rest.len() < size {
-            return None;
-        }
+        let rest = self.rest.get(8 * self.code.dim.width()..)?;
         let c = coordinate(self.rest, self.order, self.code.dim, self.joins);
-        self.rest = &self.rest[size..];
+        self.rest = rest;
         self.counts[POINTS] -= 1;
         self.joins = true;
         Some(c)
@@ -215,9 +162,7 @@ impl<'a> Cursor<'a> {
             return self.take_coord();
         }
         let mut t = *self;
-        if !t.settle() {
-            return None;
-        }
+        t.settle()?;
         let c = t.take_coord()?;
         *self = t;
         Some(c)
@@ -244,9 +189,7 @@ impl<'a> Cursor<'a> {
     pub fn next_run(&mut self) -> Option<Hulls>
         ensures { TookRun result self.old self.new }
     {
-        if !self.settle() {
-            return None;
-        }
+        self.settle()?;
         self.take_run()
     }
 }

@@ -11,11 +11,12 @@ mod hulls;
 mod source;
 mod span;
 mod state;
+mod stop;
 mod swapped;
 mod table;
 mod wkb;
 
-pub use code::{Code, Dimension, Kind};
+pub use code::{Code, Dimension, Kind, UnknownCode};
 pub use coord::Coord;
 pub use hulls::Hulls;
 pub use source::ShapeSource;

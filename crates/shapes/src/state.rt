@@ -16,10 +16,3 @@ pub struct Cursor<'a> {
     pub(crate) counts: [u32; 33],
     ghost shallow: { depth ≤ 31 },
 }
-
-// What a step towards the next coordinate came to: a coordinate follows, the cursor moved on, or nothing is to come.
-pub(crate) enum Step {
-    Ready,
-    Moved,
-    Over,
-}

@@ -16,11 +16,9 @@ impl<S: ShapeSource> ShapeSource for Swapped<S> {
 
     ghost room = { λ s. S.room s.inner };
 
+    #[tactic(auto, using(crate::proofs::Sources::lacking))]
     fn next(&mut self) -> Option<Coord> {
-        match self.inner.next() {
-            Some(c) => Some(c.exchanged()),
-            None => None,
-        }
+        self.inner.next().map(Coord::exchanged)
     }
 
     fn code(&self) -> Code {

@@ -22,10 +22,8 @@ impl<'a> Table<'a> {
     pub fn new(code: u32, coords: &'a [Coord]) -> Result<Table<'a>, Fault>
         ensures { MatchResult result (λ t. (code_of code ≡ Some t.code) × (t.rest.now ≡ coords.now)) (λ f. (code_of code ≡ None) × (f ≡ at TableCode 0)) }
     {
-        match Code::from_number(code) {
-            Some(code) => Ok(Table { code, rest: coords }),
-            None => Err(Fault::new(Cause::TableCode, 0)),
-        }
+        let code = Code::try_from(code).map_err(|_| Fault::new(Cause::TableCode, 0))?;
+        Ok(Table { code, rest: coords })
     }
 }
 
@@ -34,15 +32,11 @@ impl<'a> ShapeSource for Table<'a> {
 
     ghost room = { λ s. length s.rest.now };
 
+    #[tactic(auto, using(crate::proofs::Sources::lacking))]
     fn next(&mut self) -> Option<Coord> {
-        match self.rest {
-            [first, rest @ ..] => {
-                let c = first.on_axes(self.code.dim);
-                self.rest = rest;
-                Some(c)
-            }
-            [] => None,
-        }
+        let (first, rest) = self.rest.split_first()?;
+        self.rest = rest;
+        Some(first.on_axes(self.code.dim))
     }
 
     fn code(&self) -> Code {

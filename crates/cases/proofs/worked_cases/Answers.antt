@@ -14,5 +14,5 @@ use Rattle.bounding.specs.Told.{outer, ordinary}
 use Rattle.cases.proofs.worked_cases.Goals as goal
 
 pub returns : goal.returns
-unfolding add sub div le lt eq is_nan of_int of_bits round float_is_finite float_with_sign width empty wraps covered Ordinary.middle Ordinary.expanded Wraparound.meets Wraparound.contains Wraparound.middle Wraparound.closed Wraparound.widens_lower Wraparound.widened Wraparound.merged Wraparound.with_value Wraparound.expanded joining later runs runs_of hull gather divide codes_of outer ordinary f64_at Wkb.eights Wkb.coord Wkb.points Wkb.times Wkb.counted Wkb.body Wkb.header Wkb.shape Tree.written Tree.bytes Tree.head Tree.flat
+unfolding add sub div le lt eq is_nan of_int of_bits round float_is_finite float_with_sign width empty wraps covered Ordinary.middle Ordinary.expanded Wraparound.meets Wraparound.contains Wraparound.middle Wraparound.closed Wraparound.widens_lower Wraparound.widened Wraparound.merged Wraparound.with_value Wraparound.expanded joining later runs runs_of hull gather divide codes_of outer ordinary f64_at Wkb.eights Wkb.coord Wkb.points Wkb.times Wkb.counted Wkb.body Wkb.header Wkb.shape Tree.written Tree.bytes Tree.head
 returns c = refl

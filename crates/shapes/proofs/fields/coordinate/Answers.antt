@@ -1,37 +1,15 @@
-use Rattle.std.proofs.Common.{sym, refl, ap, ◌∙◌}
-use lib.Ieee.{of_bits}
 use Rattle.std.proofs.lemmas.List.{take_rest}
-use Rattle.shapes.specs.Numbers.{f64_at, coord_at}
-use Rattle.shapes.proofs.Cursors.{coord-same}
+use Rattle.shapes.proofs.Ordinates.{nan_is}
 use Rattle.shapes.proofs.fields.coordinate.Goals as goal
 
 pub returns-in-Xy : goal.returns-in-Xy
-unfolding of_bits
-returns-in-Xy c =
-    let b = c.args.b.now in
-    let f = f64_at c.args.order in
-    coord-same c.args.joins c.ordinate-x.ensures (c.ordinate-y.ensures ∙ ap f (take_rest b 8)) refl refl
-    ∙ ap (λ d. coord_at c.args.order d c.args.joins b) (sym c.in-Xy.is)
+returns-in-Xy c = let b = c.args.bytes.now in rw c.in-Xy.is (cc (nan_is, take_rest b 8))
 
 pub returns-in-Xyz : goal.returns-in-Xyz
-unfolding of_bits
-returns-in-Xyz c =
-    let b = c.args.b.now in
-    let f = f64_at c.args.order in
-    coord-same c.args.joins c.ordinate-x.ensures (c.ordinate-y.ensures ∙ ap f (take_rest b 8)) (c.ordinate.ensures ∙ ap f (take_rest b 16)) refl
-    ∙ ap (λ d. coord_at c.args.order d c.args.joins b) (sym c.in-Xyz.is)
+returns-in-Xyz c = let b = c.args.bytes.now in rw c.in-Xyz.is (cc (nan_is, take_rest b 8, take_rest b 16))
 
 pub returns-in-Xym : goal.returns-in-Xym
-unfolding of_bits
-returns-in-Xym c =
-    let b = c.args.b.now in
-    let f = f64_at c.args.order in
-    coord-same c.args.joins c.ordinate-x.ensures (c.ordinate-y.ensures ∙ ap f (take_rest b 8)) refl (c.ordinate-in-Xym.ensures ∙ ap f (take_rest b 16))
-    ∙ ap (λ d. coord_at c.args.order d c.args.joins b) (sym c.in-Xym.is)
+returns-in-Xym c = let b = c.args.bytes.now in rw c.in-Xym.is (cc (nan_is, take_rest b 8, take_rest b 16))
 
 pub returns-in-Xyzm : goal.returns-in-Xyzm
-returns-in-Xyzm c =
-    let b = c.args.b.now in
-    let f = f64_at c.args.order in
-    coord-same c.args.joins c.ordinate-x.ensures (c.ordinate-y.ensures ∙ ap f (take_rest b 8)) (c.ordinate-in-Xyzm.ensures ∙ ap f (take_rest b 16)) (c.ordinate-in-Xyzm-2.ensures ∙ ap f (take_rest b 24))
-    ∙ ap (λ d. coord_at c.args.order d c.args.joins b) (sym c.in-Xyzm.is)
+returns-in-Xyzm c = let b = c.args.bytes.now in rw c.in-Xyzm.is (cc (take_rest b 8, take_rest b 16, take_rest b 24))

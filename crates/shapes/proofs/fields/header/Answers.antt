@@ -1,70 +1,53 @@
-use Rattle.std.proofs.Common.{◌≡◌, ◌<◌, ◌≤◌, true, false, length, get_or, drop, sym, ap, ◌∙◌, arith, length-drop, rules}
+use Rattle.std.proofs.Common.{◌≡◌, true, false, get_or, Some, None, sym, ◌∙◌, arith}
+use Rattle.std.proofs.lemmas.Grind.{common_steps}
 use Rattle.std.proofs.lemmas.List.{take_rest}
-use Rattle.interval.specs.declared.fault.Cause.TheVariants.{Truncated, ByteOrder, TypeCode, PartType}
+use Rattle.interval.specs.declared.fault.Cause.TheVariants.{ByteOrder, TypeCode}
 use Rattle.shapes.specs.Codes.{code_of, fits}
-use Rattle.shapes.specs.Numbers.{u32_at}
-use Rattle.shapes.proofs.Reading.{header-empty, header-order, header-cut, header-code, header-misfit, header-there, stops_first, stops_second, order_some, order_none, u32_list_1, code-at}
+use Rattle.shapes.specs.Numbers.{order_of}
+use Rattle.shapes.specs.Wkb.{before}
+use Rattle.shapes.proofs.Reading.{err-stop, header-empty, header-order, header-cut, header-code, header-misfit, header-there}
 use Rattle.shapes.proofs.fields.header.Goals as goal
 
 pub returns-in_default : goal.returns-in_default
-returns-in_default c =
-    let b = c.args.bytes.now in
-    let h : 1 ≤ length b = search rules in
-    stops_first c.args.total c.args.outer b _ ByteOrder c.new-in_default.ensures (λ f. header-order c.args.outer b f h (sym c.from_byte.ensures ∙ c.in_default.is))
+returns-in_default c = header-empty c.args.outer c.args.bytes.now _ c.in_default.len_below c.before-in_default.ensures
 
-pub returns-in_default-from_number : goal.returns-in_default-from_number
-returns-in_default-from_number c =
+pub returns-in_err-order : goal.returns-in_err-order
+returns-in_err-order c =
     let b = c.args.bytes.now in
-    let h : 1 ≤ length b = search rules in
-    let h5 : 5 ≤ length b = search rules in
-    let o = c.in-Some.order in
-    let e = sym c.from_byte.ensures ∙ c.in-Some.is in
-    let n : c.read_u32.result ≡ u32_at o (drop 1 b) = c.read_u32.ensures ∙ u32_list_1 o b in
-    let e2 = ap code_of (sym n) ∙ sym c.from_number.ensures ∙ c.in_default-from_number.is in
-    stops_second c.args.total c.args.outer b _ TypeCode h c.requires c.new-in_default-from_number.ensures (λ f. header-code c.args.outer b f o h e h5 e2)
+    let e : order_of (get_or b 0 0) ≡ None = grind (arith, common_steps) in
+    let p : c.in_err-order.field-0.0 ≡ before ByteOrder b = grind (arith, common_steps) in
+    err-stop _ _ _ _ c.from_residual.ensures.1 (header-order c.args.outer b _ c.in-len1-up.len_at_least e p)
 
-pub returns-in-empty : goal.returns-in-empty
-returns-in-empty c =
+pub returns-in_err-number : goal.returns-in_err-number
+returns-in_err-number c =
     let b = c.args.bytes.now in
-    let h : length b < 1 = search rules in
-    stops_first c.args.total c.args.outer b _ Truncated c.new.ensures (λ f. header-empty c.args.outer b f h)
+    let e : order_of (get_or b 0 0) ≡ Some c.in_ok-order.order = grind (arith, common_steps) in
+    let q = c.in_err-number.ensures in
+    err-stop _ _ _ _ c.from_residual-in_err-number.ensures.1 (header-cut c.args.outer b _ _ c.in-len1-up.len_at_least e (take_rest b 1) _ q.0 q.1)
 
-pub returns-then-first-lt2 : goal.returns-then-first-lt2
-returns-then-first-lt2 c =
+pub returns-in_err-code : goal.returns-in_err-code
+returns-in_err-code c =
     let b = c.args.bytes.now in
-    let h : 1 ≤ length b = search rules in
-    let h5 : length b < 5 = search rules in
-    let e = order_some (get_or b 0 0) c.if-first-lt2.true in
-    stops_second c.args.total c.args.outer b _ Truncated h c.requires c.new-then-first-lt2.ensures (λ f. header-cut c.args.outer b f e.0 h e.1 h5)
+    let e : order_of (get_or b 0 0) ≡ Some c.in_ok-order.order = grind (arith, common_steps) in
+    let q = c.in_ok-number.ensures in
+    let d : code_of c.in_ok-number.number ≡ None = grind (arith, common_steps) in
+    let p : c.in_err-code.field-0.0 ≡ before TypeCode _ = grind (arith, common_steps) in
+    err-stop _ _ _ _ c.from_residual-in_err-code.ensures.1 (header-code c.args.outer b _ _ c.in-len1-up.len_at_least e (take_rest b 1) _ q.0 q.1 _ d p)
 
-pub returns-else-first-lt2 : goal.returns-else-first-lt2
-returns-else-first-lt2 c =
+pub returns-then-not-fits_in : goal.returns-then-not-fits_in
+returns-then-not-fits_in c =
     let b = c.args.bytes.now in
-    let h : 1 ≤ length b = search rules in
-    stops_first c.args.total c.args.outer b _ ByteOrder c.new-else-first-lt2.ensures (λ f. header-order c.args.outer b f h (order_none (get_or b 0 0) c.if-first-lt2.false))
+    let e : order_of (get_or b 0 0) ≡ Some c.in_ok-order.order = grind arith in
+    let q = c.in_ok-number.ensures in
+    let d : code_of c.in_ok-number.number ≡ Some c.in_ok-code.code = grind arith in
+    let g : fits c.args.outer c.in_ok-code.code ≡ false = sym c.fits_in.ensures ∙ c.if-not-fits_in.true in
+    header-misfit c.args.outer b _ _ c.in-len1-up.len_at_least e (take_rest b 1) _ q.0 q.1 _ _ d g c.before-then-not-fits_in.ensures
 
-pub returns-then-fits_in : goal.returns-then-fits_in
-returns-then-fits_in c =
+pub returns : goal.returns
+returns c =
     let b = c.args.bytes.now in
-    let h : 1 ≤ length b = search rules in
-    let h5 : 5 ≤ length b = search rules in
-    let o = c.in-Some.order in
-    let d = c.in-Some-from_number.code in
-    let e = sym c.from_byte.ensures ∙ c.in-Some.is in
-    let n : c.read_u32.result ≡ u32_at o (drop 1 b) = c.read_u32.ensures ∙ u32_list_1 o b in
-    let e2 = ap code_of (sym n) ∙ sym c.from_number.ensures ∙ c.in-Some-from_number.is in
-    let e3 : fits c.args.outer d ≡ true = sym c.fits_in.ensures ∙ c.if-fits_in.true in
-    (omega (arith, ap length (take_rest b 5), length-drop 5 b), λ f. header-there c.args.outer b f o h e d h5 e2 e3 ∙ ap (f o d) (sym (take_rest b 5)), code-at b o d e e2, e3)
-
-pub returns-else-fits_in : goal.returns-else-fits_in
-returns-else-fits_in c =
-    let b = c.args.bytes.now in
-    let h : 1 ≤ length b = search rules in
-    let h5 : 5 ≤ length b = search rules in
-    let o = c.in-Some.order in
-    let d = c.in-Some-from_number.code in
-    let e = sym c.from_byte.ensures ∙ c.in-Some.is in
-    let n : c.read_u32.result ≡ u32_at o (drop 1 b) = c.read_u32.ensures ∙ u32_list_1 o b in
-    let e2 = ap code_of (sym n) ∙ sym c.from_number.ensures ∙ c.in-Some-from_number.is in
-    let e3 : fits c.args.outer d ≡ false = sym c.fits_in.ensures ∙ c.if-fits_in.false in
-    stops_second c.args.total c.args.outer b _ PartType h c.requires c.new-else-fits_in.ensures (λ f. header-misfit c.args.outer b f o h e d h5 e2 e3)
+    let e : order_of (get_or b 0 0) ≡ Some c.in_ok-order.order = grind arith in
+    let q = c.in_ok-number.ensures in
+    let d : code_of c.in_ok-number.number ≡ Some c.in_ok-code.code = grind arith in
+    let g : fits c.args.outer c.in_ok-code.code ≡ true = sym c.fits_in.ensures ∙ c.if-not-fits_in.false in
+    header-there c.args.outer b _ _ c.in-len1-up.len_at_least e (take_rest b 1) _ q.0 q.1 _ _ d g q.2

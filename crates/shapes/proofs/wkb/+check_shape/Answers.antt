@@ -1,96 +1,58 @@
-use Rattle.std.proofs.Common.{◌-◌, ◌<◌, false, length, Some, ap, arith, length-drop}
-use native.Mathlib.Nat.{sub-zero}
-use Rattle.std.proofs.lemmas.Result.{err_from_is_err_and}
-use Rattle.shapes.specs.Wkb.{points, line, times, counted, shape}
-use Rattle.shapes.proofs.Reading.{counted-passes, counted-fails, counted-cut, turn_passes, turn_fails, turns_pass, body-point, body-line, body-polygon, body-container, shape-deep, shape-unheaded, shape-passes, shape-fails, shape-follow}
+use Rattle.std.proofs.Common.{◌-◌, Some, Ok, arith}
+use Rattle.shapes.specs.Wkb.{times, shape}
+use Rattle.shapes.proofs.Reading.{err-stop, counted-follow, counted-cut, turned-more, turned-fails, turned-all, shape-deep, shape-unheaded, point-follow, line-follow, polygon-follow, container-follow}
 use Rattle.shapes.proofs.wkb.+check_shape.Goals as goal
 
 pub returns-then-levels-eq0 : goal.returns-then-levels-eq0
-returns-then-levels-eq0 t c = shape-deep c.args.levels c.args.outer c.args.bytes.now c.args.total _ c.if-levels-eq0.true c.new.ensures
+returns-then-levels-eq0 t c = shape-deep c.args.levels c.args.outer c.args.bytes.now _ c.if-levels-eq0.true c.before-then-levels-eq0.ensures
 
 pub returns-in_err-order : goal.returns-in_err-order
-returns-in_err-order t c =
-    let p = err_from_is_err_and c.from_residual.result c.from_residual.ensures.1 in
-    let h : 0 < c.args.levels = omega arith in
-    rw (p.1, p.2) (shape-unheaded c.args.levels c.args.outer c.args.bytes.now c.args.total _ h c.in_err-order.ensures)
+returns-in_err-order t c = err-stop _ _ _ _ c.from_residual.ensures.1 (shape-unheaded c.args.levels c.args.outer c.args.bytes.now _ (omega arith) c.in_err-order.ensures)
 
 pub returns-in-Point : goal.returns-in-Point
 returns-in-Point t c =
-    let h : 0 < c.args.levels = omega arith in
     let q = c.in_ok-order.ensures in
-    let o = c.in_ok-order.order in
-    let d = c.in_ok-order.code in
-    let e = body-point o d.dim (shape (c.args.levels - 1) (Some d)) d.kind c.in-Point.is in
-    shape-follow c.args.levels c.args.outer c.args.bytes.now o d c.in_ok-order.after.now (points o d.dim false 1) h q.1 e c.args.total c.check_points.result (omega (arith, q.0)) (c.check_points.ensures o false)
+    point-follow c.args.levels c.args.outer c.args.bytes.now _ _ _ (omega arith) q.1 q.0 _ c.in-Point.is c.check_points.ensures
 
 pub returns-in-Line : goal.returns-in-Line
 returns-in-Line t c =
-    let h : 0 < c.args.levels = omega arith in
     let q = c.in_ok-order.ensures in
-    let o = c.in_ok-order.order in
-    let d = c.in_ok-order.code in
-    let e = body-line o d.dim (shape (c.args.levels - 1) (Some d)) d.kind c.in-Line.is in
-    shape-follow c.args.levels c.args.outer c.args.bytes.now o d c.in_ok-order.after.now (line o d.dim) h q.1 e c.args.total c.check_line.result (omega (arith, q.0)) c.check_line.ensures
+    line-follow c.args.levels c.args.outer c.args.bytes.now _ _ _ (omega arith) q.1 q.0 _ c.in-Line.is c.check_line.ensures
 
 pub returns-in-Polygon : goal.returns-in-Polygon
 returns-in-Polygon t c =
-    let h : 0 < c.args.levels = omega arith in
     let q = c.in_ok-order.ensures in
-    let o = c.in_ok-order.order in
-    let d = c.in_ok-order.code in
-    let e = body-polygon o d.dim (shape (c.args.levels - 1) (Some d)) d.kind c.in-Polygon.is in
-    shape-follow c.args.levels c.args.outer c.args.bytes.now o d c.in_ok-order.after.now (counted o (times (line o d.dim))) h q.1 e c.args.total c.check_polygon.result (omega (arith, q.0)) c.check_polygon.ensures
+    polygon-follow c.args.levels c.args.outer c.args.bytes.now _ _ _ (omega arith) q.1 q.0 _ c.in-Polygon.is c.check_polygon.ensures
 
 pub returns-in_err-n-in_default : goal.returns-in_err-n-in_default
 returns-in_err-n-in_default t c =
-    let p = err_from_is_err_and c.from_residual-in_err-n-in_default.result c.from_residual-in_err-n-in_default.ensures.1 in
-    let h : 0 < c.args.levels = omega arith in
     let q = c.in_ok-order.ensures in
-    let o = c.in_ok-order.order in
-    let d = c.in_ok-order.code in
-    let part = shape (c.args.levels - 1) (Some d) in
-    let e = body-container o d.dim part d.kind c.in_default.not-Point c.in_default.not-Line c.in_default.not-Polygon in
+    let d = c.in_default in
     let z = c.in_err-n-in_default.ensures in
-    rw (p.1, p.2) (shape-fails c.args.levels c.args.outer c.args.bytes.now o d c.in_ok-order.after.now (counted o (times part)) h q.1 e c.args.total _
-    (counted-cut o (times part) c.in_ok-order.after.now c.args.total _ z.0 z.1))
+    container-follow c.args.levels c.args.outer c.args.bytes.now _ _ _ (omega arith) q.1 q.0 _ d.not-Point d.not-Line d.not-Polygon
+    (err-stop _ _ _ _ c.from_residual-in_err-n-in_default.ensures.1 (counted-cut c.in_ok-order.order (times (shape (c.args.levels - 1) (Some c.in_ok-order.code))) c.in_ok-order.after.now _ z.0 z.1))
 
-pub loop-part-init : goal.loop-part-init
-loop-part-init t c =
-    let q = c.in_ok-order.ensures in
-    let z = c.in_ok-n-in_default.ensures in
-    (omega (arith, q.0, ap length z.2, length-drop 4 c.in_ok-order.after.now), λ k. ap (λ m. (times (shape (c.args.levels - 1) (Some c.in_ok-order.code)) m k c.in_ok-n-in_default.parts.now).ending) (sub-zero c.in_ok-n-in_default.n))
-
-pub loop-part-preserved : goal.loop-part-preserved
-loop-part-preserved t c =
-    let q = c.in_ok-rest-in_default.ensures in
-    let part = shape (c.args.levels - 1) (Some c.in_ok-order.code) in
-    (omega (arith, q.0, c.loop-part.invariant.0), turn_passes part c.in_ok-n-in_default.n c.loop-part.part c.in_ok-n-in_default.parts.now c.loop-part.rest.now c.loop-part.invariant.1 _ c.loop-part-test.true q.1)
+pub parts-preserved : goal.parts-preserved
+parts-preserved t c =
+    turned-more (shape (c.args.levels - 1) (Some c.in_ok-order.code)) c.in_ok-n-in_default.n c.parts.counter c.in_ok-n-in_default.rest.now c.parts.rest.now c.parts.invariant _ c.parts-test.true c.in_ok-rest-in_default.ensures
 
 pub returns-in_err-rest-in_default : goal.returns-in_err-rest-in_default
 returns-in_err-rest-in_default t c =
-    let p = err_from_is_err_and c.from_residual-in_err-rest-in_default.result c.from_residual-in_err-rest-in_default.ensures.1 in
-    let h : 0 < c.args.levels = omega arith in
     let q = c.in_ok-order.ensures in
-    let o = c.in_ok-order.order in
-    let d = c.in_ok-order.code in
-    let part = shape (c.args.levels - 1) (Some d) in
-    let e = body-container o d.dim part d.kind c.in_default.not-Point c.in_default.not-Line c.in_default.not-Polygon in
+    let d = c.in_default in
+    let part = shape (c.args.levels - 1) (Some c.in_ok-order.code) in
     let z = c.in_ok-n-in_default.ensures in
-    rw (p.1, p.2) (shape-fails c.args.levels c.args.outer c.args.bytes.now o d c.in_ok-order.after.now (counted o (times part)) h q.1 e c.args.total _
-    (counted-fails o (times part) c.in_ok-order.after.now c.in_ok-n-in_default.n c.in_ok-n-in_default.parts.now z.0 z.1 z.2 c.args.total _
-    (turn_fails part c.in_ok-n-in_default.n c.loop-part.part c.in_ok-n-in_default.parts.now c.loop-part.rest.now c.loop-part.invariant.1 c.args.total _ c.loop-part-test.true c.in_err-rest-in_default.ensures)))
+    container-follow c.args.levels c.args.outer c.args.bytes.now _ _ _ (omega arith) q.1 q.0 _ d.not-Point d.not-Line d.not-Polygon
+    (counted-follow c.in_ok-order.order (times part) c.in_ok-order.after.now _ _ z.0 z.1 z.2 _
+    (err-stop _ _ _ _ c.from_residual-in_err-rest-in_default.ensures.1
+    (turned-fails part c.in_ok-n-in_default.n c.parts.counter c.in_ok-n-in_default.rest.now c.parts.rest.now c.parts.invariant _ c.parts-test.true c.in_err-rest-in_default.ensures)))
 
-pub returns-after-loop-part : goal.returns-after-loop-part
-returns-after-loop-part t c =
-    let h : 0 < c.args.levels = omega arith in
+pub returns-after-parts : goal.returns-after-parts
+returns-after-parts t c =
     let q = c.in_ok-order.ensures in
-    let o = c.in_ok-order.order in
-    let d = c.in_ok-order.code in
-    let part = shape (c.args.levels - 1) (Some d) in
-    let e = body-container o d.dim part d.kind c.in_default.not-Point c.in_default.not-Line c.in_default.not-Polygon in
-    let z = c.in_ok-n-in_default.ensures in (
-      c.loop-part.invariant.0,
-      shape-passes c.args.levels c.args.outer c.args.bytes.now o d c.in_ok-order.after.now (counted o (times part)) h q.1 e c.loop-part.rest.now
-          (counted-passes o (times part) c.in_ok-order.after.now c.in_ok-n-in_default.n c.in_ok-n-in_default.parts.now z.0 z.1 z.2 _
-          (turns_pass part c.in_ok-n-in_default.n c.loop-part.part c.in_ok-n-in_default.parts.now c.loop-part.rest.now c.loop-part.invariant.1 c.loop-part-test.false)),
-    )
+    let d = c.in_default in
+    let part = shape (c.args.levels - 1) (Some c.in_ok-order.code) in
+    let z = c.in_ok-n-in_default.ensures in
+    container-follow c.args.levels c.args.outer c.args.bytes.now _ _ _ (omega arith) q.1 q.0 (Ok c.parts.rest) d.not-Point d.not-Line d.not-Polygon
+    (counted-follow c.in_ok-order.order (times part) c.in_ok-order.after.now _ _ z.0 z.1 z.2 (Ok c.parts.rest)
+    (turned-all part c.in_ok-n-in_default.n c.parts.counter c.in_ok-n-in_default.rest.now c.parts.rest.now c.parts.invariant c.parts-test.false))

@@ -1,44 +1,32 @@
-use Rattle.std.proofs.Common.{◌≡◌, ◌-◌, Bool, true, false, ◌≢◌, length, get_or, MatchBool, sym, ap, ◌∙◌, arith, get_or-set_other, rules}
+use Rattle.std.proofs.Common.{◌≡◌, length, Some, None, Option, MatchOption, sym, ap, ◌∙◌, arith, rules}
 use Rattle.shapes.specs.Pending.{still}
 use Rattle.shapes.specs.Steps.{entered}
-use Rattle.shapes.proofs.Coding.{fits-dim, fits-takes}
-use Rattle.shapes.proofs.Cursors.{pending-parts, part_headed, part_unheaded}
+use Rattle.shapes.proofs.Coding.{fits-dim}
+use Rattle.shapes.proofs.Cursors.{kept, lost, pending-parts, part_headed, part_unheaded}
 use Rattle.shapes.proofs.state.Cursor.start_part.Goals as goal
 
-when_map : (r : Bool) {P P' Q Q' : Type 0} → MatchBool r P Q → (P → P') → (Q → Q') → MatchBool r P' Q'
-when_map true w f g = f w
-when_map false w f g = g w
+option_map : {A : Type 0} (r : Option A) {P P' : Type 0} {Q Q' : A → Type 0} → MatchOption r P Q → (P → P') → ((x : A) → Q x → Q' x) → MatchOption r P' Q'
+option_map None w f g = f w
+option_map (Some x) w f g = g x w
 
-pub enter-requires : goal.enter-requires
-enter-requires c =
-    let s = c.args.self.now in
-    let d1 = s.depth - 1 in
-    let v = get_or s.counts d1 0 - 1 in
-    let ne31 : 31 ≢ d1 = omega (arith, s.shallow) in
-    let ne32 : 32 ≢ d1 = omega (arith, s.shallow) in
-    record {
-      rings = get_or-set_other s.counts d1 31 v 0 ne31 ∙ c.requires.rings;
-      points = get_or-set_other s.counts d1 32 v 0 ne32 ∙ c.requires.points;
-      fitting = λ _. fits-takes s.inner s.code.dim c.in-Ok.code c.in-Ok.ensures.3;
-    }
-
-pub returns-in-Ok : goal.returns-in-Ok
+pub returns : goal.returns
 unfolding still entered
-returns-in-Ok c =
+returns c =
     let s = c.args.self.now in
-    let q = c.in-Ok.ensures in
+    let q = kept c.header.result _ _ (c.in_ok-order.order, c.in_ok-order.code, c.in_ok-order.after) (sym c.ok.ensures.value ∙ c.in_ok-order.was) c.header.ensures in
     let l : length s.counts ≡ 33 = search rules in
     let e =
     ap (λ r. r.coords)
-    (pending-parts s.order s.code.dim s.joins s.inner s.counts s.depth s.rest.now c.requires.rings c.requires.points
-    ∙ part_headed s.code.dim s.inner s.counts s.depth s.rest.now c.requires.deep s.shallow c.requires.more c.in-Ok.order c.in-Ok.code c.in-Ok.after.now l (fits-dim s.inner s.code.dim c.in-Ok.code q.3) q.1) in
-    when_map c.enter.result c.enter.ensures
-    (λ p. record { same = p.same ∙ sym e; less = omega (arith, p.less, q.0); shorter = omega (arith, p.shorter, q.0); code = p.code })
-    (λ p. e ∙ p)
+    (pending-parts s.order s.code.dim s.joins s.inner s.counts s.depth s.rest.now c.requires.between.rings c.requires.between.points
+    ∙ part_headed s.code.dim s.inner s.counts s.depth s.rest.now c.requires.deep s.shallow c.requires.more c.in_ok-order.order c.in_ok-order.code c.in_ok-order.after.now l (fits-dim s.inner s.code.dim c.in_ok-order.code q.3) q.1) in
+    option_map c.enter.result c.enter.ensures
+    (λ p. e ∙ p.0)
+    (λ _ p. record { same = p.same ∙ sym e; less = omega (arith, p.less, q.0); shorter = omega (arith, p.shorter, q.0); code = p.code })
 
-pub returns-in-Err : goal.returns-in-Err
+pub returns-in_err-order : goal.returns-in_err-order
 unfolding still
-returns-in-Err c =
+returns-in_err-order c =
     let s = c.args.self.now in
-    ap (λ r. r.coords) (pending-parts s.order s.code.dim s.joins s.inner s.counts s.depth s.rest.now c.requires.rings c.requires.points)
-    ∙ part_unheaded s.code.dim s.inner s.counts s.depth s.rest.now c.requires.deep s.shallow c.requires.more _ _ c.in-Err.ensures
+    let q = lost c.header.result _ _ (sym c.ok.ensures.value ∙ c.in_err-order.was) c.header.ensures in
+    rw c.from_residual.ensures (ap (λ r. r.coords) (pending-parts s.order s.code.dim s.joins s.inner s.counts s.depth s.rest.now c.requires.between.rings c.requires.between.points)
+    ∙ part_unheaded s.code.dim s.inner s.counts s.depth s.rest.now c.requires.deep s.shallow c.requires.more _ q.1)

@@ -1,10 +1,11 @@
 -- Laws of the readers.
-use Rattle.std.proofs.Common.{◌≡◌, ℕ, zero, suc, ◌+◌, ◌-◌, ◌*◌, ◌%◌, ◌<◌, ◌≤◌, Bool, true, false, List, [], ◌∷◌, length, get_or, drop, Some, None, Option, Result, sym, refl, ap, ◌∙◌, inl, inr, suc-mul, zero-mul, arith, length-drop, drop-drop, Bor, le-leb, MatchResult}
+use Rattle.std.proofs.Common.{get_or-drop, ◌≡◌, ℕ, zero, suc, ◌+◌, ◌-◌, ◌*◌, ◌%◌, ◌<◌, ◌≤◌, Bool, true, false, List, [], ◌∷◌, length, get_or, drop, Some, None, Option, Result, sym, refl, ap, ◌∙◌, inl, inr, suc-mul, zero-mul, arith, length-drop, drop-drop, Bor, le-leb, MatchResult}
 use Rattle.std.specs.Result.{IsErrAnd}
 use Rattle.std.proofs.lemmas.Result.{MatchResult-weaker, err_from_is_err_and}
 use Rattle.std.proofs.lemmas.Bool.{cases_lt}
 use borrow.Author.Tests.{lt-leb}
 use Rattle.shapes.specs.declared.endian.Endian.{Endian}
+use Rattle.shapes.specs.declared.endian.Endian.TheVariants.{Big, Little}
 use Rattle.shapes.specs.declared.code.Dimension.{Dimension}
 use Rattle.shapes.specs.declared.code.Code.{Code}
 use Rattle.shapes.specs.declared.coord.Coord.{Coord}
@@ -163,6 +164,11 @@ module _ (r : Reader → Reader) (n i : ℕ) (b rest : List ℕ) (t : Turned r n
   turned-all h = (t.shorter, λ k. sym (t.same k) ∙ ap (λ u. u.ending) (times_none r n i k rest h))
 
 -- ---- headers
+
+-- the four bytes behind the first
+pub u32_list_1 : (o : Endian) (b : List ℕ) → u32_at o (get_or b 1 0 ∷ get_or b 2 0 ∷ get_or b 3 0 ∷ get_or b 4 0 ∷ []) ≡ u32_at o (drop 1 b)
+u32_list_1 Big b = simp get_or-drop
+u32_list_1 Little b = simp get_or-drop
 
 -- a header that stops before b', the last bytes of b
 stops_before : (outer : Option Code) (b b' : List ℕ) (s : Stop) (e : Cause) → length b' ≤ length b → s ≡ before e b' → ((g : Endian → Code → Reader) → header outer g b ≡ fault e b') → Unheaded outer b s

@@ -36,16 +36,25 @@ pub(crate) fn skip_eights(bytes: &[u8], n: usize) -> Result<&[u8], Stop>
 pub(crate) fn header(bytes: &[u8], outer: Option<Code>) -> Result<(Endian, Code, &[u8]), Stop>
     ensures { MatchResult result (λ p. (length p.2.now + 5 ≤ length bytes.now) × Headed outer bytes.now p.0 p.1 p.2.now × (p.1 ≡ code_at bytes.now) × (fits outer p.1 ≡ true)) (λ s. Unheaded outer bytes.now s) }
 {
-    let [first, numbered @ ..] = bytes else {
-        return Err(Stop::before(Cause::Truncated, bytes));
-    };
-    let order = Endian::try_from(*first).map_err(|cause| Stop::before(cause, bytes))?;
-    let (number, rest) = count(numbered, order)?;
-    let code = Code::try_from(number).map_err(|_| Stop::before(Cause::TypeCode, numbered))?;
-    if !code.fits_in(outer) {
-        return Err(Stop::before(Cause::PartType, numbered));
+    match bytes {
+        [first, a, b, c, d, rest @ ..] => {
+            let order = Endian::try_from(*first).map_err(|cause| Stop::before(cause, bytes))?;
+            let numbered = &bytes[1..];
+            let number = order.read_u32([*a, *b, *c, *d]);
+            let Ok(code) = Code::try_from(number) else {
+                return Err(Stop::before(Cause::TypeCode, numbered));
+            };
+            if !code.fits_in(outer) {
+                return Err(Stop::before(Cause::PartType, numbered));
+            }
+            Ok((order, code, rest))
+        }
+        [first, cut @ ..] => {
+            Endian::try_from(*first).map_err(|cause| Stop::before(cause, bytes))?;
+            Err(Stop::before(Cause::Truncated, cut))
+        }
+        [] => Err(Stop::before(Cause::Truncated, bytes)),
     }
-    Ok((order, code, rest))
 }
 
 // The eight bytes at the start as a float.

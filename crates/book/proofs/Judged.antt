@@ -112,21 +112,18 @@ pub told-upright : (hint : Pair) (ss : List Shape) → Upright (told hint (recor
 told-upright hint ss = record { y = upright_axis ys (runs_of ss); z = upright_axis zs (runs_of ss); m = upright_axis ms (runs_of ss) }
 
 -- ---- a verdict on a page
-granted-on : (w : Frame) (g : Target) (t : Told) (o : Option Fault) (v : Verdict) → Tested w Column t o (Ok v) → Tested w g t o (Ok v)
-granted-on w g t (Some f) v h = let z : ◌≡◌ {A = ℕ} 0 1 = cc in absurd (omega arith)
-granted-on w g t None v h = h
+abbrev pub placed-in : Target → Result Verdict Fault → Result Verdict Fault
+placed-in g (Ok v) = Ok v
+placed-in g (Err f) = Err (placed g f)
 
-pub verdict-on : (wrapping : Bool) (w : Frame) (g : Target) (t : Told) (o : Option Pair) (v : Verdict) → TestedX wrapping w Column t o (Ok v) → TestedX wrapping w g t o (Ok v)
-verdict-on wrapping w g t None v h = h
-verdict-on wrapping w g t (Some e) v h = granted-on w g t (refusal wrapping e) v h
+placed-tested : (w : Frame) (g : Target) (t : Told) (o : Option Fault) (r q : Result Verdict Fault) → Tested w Column t o r → q ≡ placed-in g r → Tested w g t o q
+placed-tested w g t (Some f) r q h e = e ∙ ap (placed-in g) h
+placed-tested w g t None r q (v, h, d) e = (v, e ∙ ap (placed-in g) h, d)
 
-refused-on : (w : Frame) (g : Target) (t : Told) (o : Option Fault) (f : Fault) → Tested w Column t o (Err f) → Tested w g t o (Err (placed g f))
-refused-on w g t (Some e) f h = let same : f ≡ e = cc in ap (λ (x : Fault). Err (placed g x)) same
-refused-on w g t None f (v, h, d) = let z : ◌≡◌ {A = ℕ} 0 1 = cc in absurd (omega arith)
-
-pub refusal-on : (wrapping : Bool) (w : Frame) (g : Target) (t : Told) (o : Option Pair) (f : Fault) → TestedX wrapping w Column t o (Err f) → TestedX wrapping w g t o (Err (placed g f))
-refusal-on wrapping w g t None f h = let z : ◌≡◌ {A = ℕ} 0 1 = cc in absurd (omega arith)
-refusal-on wrapping w g t (Some e) f h = refused-on w g t (refusal wrapping e) f h
+-- the same verdict, or the refusal with the page
+pub placed-on : (wrapping : Bool) (w : Frame) (g : Target) (t : Told) (o : Option Pair) (r q : Result Verdict Fault) → TestedX wrapping w Column t o r → q ≡ placed-in g r → TestedX wrapping w g t o q
+placed-on wrapping w g t None r q h e = e ∙ ap (placed-in g) h
+placed-on wrapping w g t (Some x) r q h e = placed-tested w g t (refusal wrapping x) r q h e
 
 -- ---- a skip
 apart_tested : (w : Frame) (g : Target) (t : Told) (o : Option Fault) → Tested w g t o (Ok Skip) → SharesAll t w → ⊥

@@ -1,10 +1,11 @@
 -- One call, from what the rule said of it.
-use Rattle.std.proofs.Common.{◌≡◌, ℕ, zero, suc, ◌+◌, ◌<◌, ◌≤◌, List, [], ◌∷◌, ◌++◌, map, length, get_or, take, set, Some, None, Ok, Err, Option, Result, sym, refl, ap, ◌∙◌, subst, ap₂, inl, inr, append-nil, arith, length-take}
+use Rattle.std.proofs.Common.{◌≡◌, ℕ, zero, suc, ◌+◌, ◌<◌, ◌≤◌, List, [], ◌∷◌, ◌++◌, map, length, get_or, take, set, Some, None, Ok, Err, Option, Result, sym, refl, ap, ◌∙◌, subst, ap₂, ◌⊎◌, inl, inr, IsErrAnd, MatchResult, append-nil, arith, length-take}
 use mathlib.Core.List.Memᴰ
 use mathlib.Core.List.{Memᴰ}
 use lib.Seq.{map-set, take-set-lt}
 use Rattle.std.proofs.lemmas.List.{take_more_set, map_push, length_push, length-set, get_or-take, get_or-map}
 use Rattle.std.proofs.lemmas.Bool.{cond_below, cond_above}
+use Rattle.std.proofs.lemmas.Result.{err_from_is_err_and}
 use Rattle.interval.specs.declared.fault.Fault.{Fault}
 use Rattle.interval.specs.declared.fault.Cause.TheVariants.{NoSuchPage}
 use Rattle.interval.specs.Faults.{at}
@@ -78,9 +79,22 @@ moved b b' a x v Answered said same hints names names₂ writing keeping answeri
     (λ s k. subst (λ (u : Result Deed Fault). KeptUnder (hint_of b) (after s x u) b') (sym (agreed k a x ∙ sym said)) (keeping s k))
     (λ s k. answering s k (agreed k a x ∙ sym said))
 
--- what the rule said, with the room as it is
-pub said : (q : State) (closed room room' : ℕ) (a : Asked) (x : Brought) (v : Result Deed Fault) → room ≡ room' → v ≡ ruling q closed room a → outcome v a x ≡ outcome (ruling q closed room' a) a x
-said q closed room room' a x v e r = ap (λ (u : Result Deed Fault). outcome u a x) (r ∙ ap (λ (n : ℕ). ruling q closed n a) e)
+-- what the rule said of the book
+pub said : (b : Book) (a : Asked) (x : Brought) (v : Result Deed Fault) → v ≡ ruling b.state b.closed (usable (size b)) a → outcome v a x ≡ outcome (ruling b.state b.closed (usable (size b)) a) a x
+said b a x v r = ap (λ (u : Result Deed Fault). outcome u a x) r
+
+-- a call that the rule refuses changes nothing
+pub refused : (b : Book) (a : Asked) (x : Brought) (f : Fault) (r : Result (Unit {0}) Fault) → IsErrAnd r (λ g. g ≡ f) → Err f ≡ ruling b.state b.closed (usable (size b)) a
+    → Step b b (moves a x) (λ s. r ≡ added (verdict (size b) s a x))
+refused b a x f r e h =
+    let (g, is, same) = err_from_is_err_and r e in
+    moved b b a x (Err f) _ (said b a x (Err f) h) refl refl refl refl (λ s k. refl) (λ s k. k) (λ s k u. is ∙ ap (λ (g : Fault). Err g) same ∙ ap added (sym u))
+
+-- what `map_err` returns, by what it was called on
+pub by_variant : {T E D : Type 0} (r : Result T E) (q : Result T D) {P : T → Type 0} {Q : E → Type 0} {R : E → D → Type 0} → MatchResult r P Q → MatchResult r (λ x. q ≡ Ok x) (λ e. IsErrAnd q (R e))
+    → ((x : T) × P x × (q ≡ Ok x)) ⊎ ((e : E) × Q e × ((d : D) × (q ≡ Err d) × R e d))
+by_variant (Ok x) q p m = inl (x, p, m)
+by_variant (Err e) q p m = inr (e, p, err_from_is_err_and q m)
 
 -- the same call under another answer that follows from the first
 pub reworded : {b b' : Book} {c : Call} {P Q : Standing → Type 0} → Step b b' c P → ((s : Standing) → KeptBy s b → P s → Q s) → Step b b' c Q

@@ -1,5 +1,5 @@
 -- The parts of a verdict, put together.
-use Rattle.std.proofs.Common.{◌≡◌, ℕ, Bool, true, false, cond, not, ◌&&◌, T, List, Some, None, Ok, Err, Option, Result, sym, refl, ap, ◌∙◌, subst, arith}
+use Rattle.std.proofs.Common.{◌≡◌, ℕ, Bool, true, false, cond, not, ◌&&◌, T, List, MatchOption, Some, None, Ok, Err, Option, Result, sym, refl, ap, ◌∙◌, subst, arith}
 use lib.Ieee.{Float, le, lt, is_nan}
 use Rattle.number.specs.Values.{Held}
 use Rattle.interval.specs.declared.fault.Fault.{Fault}
@@ -30,7 +30,7 @@ pub stored-lower : (e : Pair) → Held e.lo → T (not (is_nan e.lo)) → Inhabi
 stored-lower e h n = (e.lo, (h, n), let l = le_refl e.lo n in grind arith)
 
 -- ---- one axis
-pub told-shares : (e : Pair) (s : Set) (r : Bool) → Held e.lo → Meets (between e) s r → SharesIf (Some e) s r
+told-shares : (e : Pair) (s : Set) (r : Bool) → Held e.lo → Meets (between e) s r → SharesIf (Some e) s r
 told-shares e s r h m up =
     let is : (v : Float) → stored e v ≡ between e v = λ v. grind arith in (
       (λ t i.
@@ -38,6 +38,10 @@ told-shares e s r h m up =
           (v, V, subst T (sym (is v)) p, q)),
       λ (v, V, p, q). m.always (v, V, subst T (is v) p, q),
     )
+
+pub told-shares-if : (o : Option Interval) (s : Set) (r : Bool) → MatchOption o (r ≡ false) (λ i. Meets (between (ends i)) s r) → SharesIf (optional o) s r
+told-shares-if None s r h = h
+told-shares-if (Some i) s r h = told-shares (ends i) s r i.held.0 h
 
 pub taken_shares : (covered s : Set) (e : Pair) (r : Bool) → Held e.lo → T (not (is_nan e.lo)) → Equal covered (stored e) → Meets covered s r → (T r → Inhabited s → Common (stored e) s) × (Common (stored e) s → T r)
 taken_shares covered s e r h n eq m = (

@@ -155,10 +155,7 @@ impl<'a> Book<'a> {
                 Ok(page.tell(&hint))
             }
             Target::Page(n) => Err(Fault::new(Cause::NoSuchPage, n)),
-            Target::Column => {
-                let all = merged(&self.table[0..self.closed]);
-                Ok(all.tell(&hint))
-            }
+            Target::Column => Ok(merged(&self.table[..self.closed]).tell(&hint)),
         }
     }
 
@@ -190,9 +187,7 @@ fn placed(fault: Fault, target: Target) -> Fault
 fn merged(records: &[PageRecord]) -> PageRecord
     ensures { kept result ≡ merged_from empty_record (map kept records.now) }
 {
-    let mut all = PageRecord::empty();
-    for page in records {
-        all = all.merge(page);
-    }
-    all
+    records
+        .iter()
+        .fold(PageRecord::empty(), |all, page| all.merge(page))
 }

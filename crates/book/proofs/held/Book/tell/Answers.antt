@@ -1,11 +1,9 @@
-use Rattle.std.proofs.Common.{◌≡◌, ℕ, ◌≤◌, map, length, get_or, take, Ok, Err, sym, refl, ap, ◌∙◌, arith, rules}
-use native.Mathlib.Nat.{sub-zero}
+use Rattle.std.proofs.Common.{◌≡◌, ◌≤◌, length, get_or, Ok, Err, sym, refl, ap, ◌∙◌, arith, rules}
 use Rattle.interval.specs.declared.fault.Fault.{Fault}
 use Rattle.interval.specs.declared.kinds.Interval.{Interval}
 use Rattle.interval.specs.Pairs.{ends}
 use Rattle.bounding.specs.Told.{Told, told}
-use Rattle.bounding.specs.Laws.{merged_from}
-use Rattle.bounding.specs.Walk.{kept, answer, empty_record}
+use Rattle.bounding.specs.Walk.{kept, answer}
 use Rattle.book.specs.Standing.{Standing, asks}
 use Rattle.book.specs.Promises.{tells}
 use Rattle.book.specs.Keeping.{KeptBy, hint_of}
@@ -34,7 +32,7 @@ returns-in-Column c =
     let b = c.args.self.now in
     let answers : (s : Standing) → KeptBy s b → Ok (answer c.tell-in-Column.result) ≡ tells (hint_of b) s c.args.target = λ s k.
     ap (λ (t : Told). Ok t)
-    (c.tell-in-Column.ensures.exact ∙ ap (λ (h : Interval). told (ends h) (kept c.merged-all.result)) c.hint-hint.ensures
-    ∙ ap (told (hint_of b)) (column-record k c.merged-all.result (c.merged-all.ensures ∙ ap (λ (n : ℕ). merged_from empty_record (map kept (take n b.table.now))) (sub-zero _))))
+    (c.tell-in-Column.ensures.exact ∙ ap (λ (h : Interval). told (ends h) (kept c.merged.result)) c.hint-hint.ensures
+    ∙ ap (told (hint_of b)) (column-record k c.merged.result (c.merged.ensures ∙ refl)))
     ∙ ap (tells (hint_of b) s) (sym c.in-Column.is) in
     record { step = stepped b b asks _ refl refl refl refl (λ s k. refl) (λ s k. k) answers; column = told-truly b c.args.target _ answers }

@@ -35,7 +35,7 @@ told-on hint s (Page n) t e = go (ltb n (length s.pages)) e
   where
     go : (k : Bool) → ◌≡◌ {A = Result Told Fault} (cond k (Ok (told hint (record_at hint s (Page n)))) (Err (at NoSuchPage n))) (Ok t) → t ≡ told hint (record_of hint (get_or s.pages n []))
     go true h = cc
-    go false h = let z : ◌≡◌ {A = ℕ} 0 1 = cc in absurd (omega arith)
+    go false h = absurd (cc)
 told-on hint s Column t e = let h = record-on hint s Column in cc
 
 -- a page's shapes stand on the column

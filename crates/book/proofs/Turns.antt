@@ -31,25 +31,10 @@ pub spent-returned : {D : Type 0} (done : ℕ → Done) (p : ℕ) (v : Result D 
 spent-returned done p (Ok d) = refl
 spent-returned done p (Err f) = refl
 
--- the same call under an answer that is known of every list of calls before it
-pub answering : {b b' : Book} {c : Call} {P : Standing → Type 0} (Q : Standing → Type 0) → Step b b' c P → ((h : List Call) → KeptBy (standing (size b) h) b → P (standing (size b) h) → Q (standing (size b) h)) → Step b b' c Q
-answering {b} Q t f =
-    record {
-      same_size = t.same_size;
-      same_hint = t.same_hint;
-      same_table = t.same_table;
-      same_pending = t.same_pending;
-      writes = t.writes;
-      keeps = t.keeps;
-      answers = λ h k. f h k (t.answers h k);
-      skips = t.skips;
-      tells = t.tells;
-    }
-
 -- the same call by an equal request
-pub at-request : {K S : Type 0} (wrapping : Bool) (covers : K → Set) (means : S → Shape) (b b' : Book) (x y : Request K S) (a : Reply) → x ≡ y
-    → Step b b' (called means y) (λ s. Replies wrapping covers means (hint_of b) (size b) s y a) → Step b b' (called means x) (λ s. Replies wrapping covers means (hint_of b) (size b) s x a)
-at-request {K} {S} wrapping covers means b b' x y a e t = subst (λ (z : Request K S). Step b b' (called means z) (λ s. Replies wrapping covers means (hint_of b) (size b) s z a)) (sym e) t
+pub at-request : {K S : Type 0} (wrapping : Bool) (covers : K → Set) (means : S → Shape) (a : Reply) {b b' : Book} {x y : Request K S} → x ≡ y → Step b b' (called means y) (λ s. Replies wrapping covers means (hint_of b) (size b) s y a)
+    → Step b b' (called means x) (λ s. Replies wrapping covers means (hint_of b) (size b) s x a)
+at-request {K} {S} wrapping covers means a {b} {b'} e t = subst (λ (z : Request K S). Step b b' (called means z) (λ s. Replies wrapping covers means (hint_of b) (size b) s z a)) (sym e) t
 
 -- ---- the list so far
 -- the next of those that are left is the next of those that were asked

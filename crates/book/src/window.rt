@@ -64,9 +64,5 @@ pub fn judge<K: IntervalTrait + Drop>(told: &Answer, window: &Window<K>) -> Resu
         & shares(told.y, &window.y)
         & shares_asked(told.z, window.z)
         & shares_asked(told.m, window.m);
-    if met {
-        Ok(Verdict::Keep)
-    } else {
-        Ok(Verdict::Skip)
-    }
+    Ok(if met { Verdict::Keep } else { Verdict::Skip })
 }

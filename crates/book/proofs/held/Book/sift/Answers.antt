@@ -4,9 +4,9 @@ use Rattle.interval.specs.Pairs.{Pair}
 use Rattle.bounding.specs.Told.{Told}
 use Rattle.bounding.specs.Walk.{answer}
 use Rattle.book.specs.declared.states.Target.{Target}
-use Rattle.book.specs.Keeping.{hint_of}
+use Rattle.book.specs.Keeping.{hint_of, size}
 use Rattle.book.specs.Promises.{tells, on}
-use Rattle.book.specs.Standing.{Standing}
+use Rattle.book.specs.Standing.{Standing, standing}
 use Rattle.book.specs.Verdicts.{Upright, frame_of}
 use Rattle.book.specs.Windows.{Sifted}
 use Rattle.book.proofs.Judged.{told-upright, placed-in, placed-on, skipped_soundly}
@@ -27,5 +27,5 @@ returns q c =
     let is : c.map_err.result ≡ placed-in g c.judge.result = search rules in
     let step =
     reworded c.in_ok-told.ensures.step
-    (λ s k e. subst (λ (r : Result Told Fault). Sifted wrapping w g r c.map_err.result) e (placed-on wrapping w g t t.x c.judge.result c.map_err.result (c.judge.ensures (upright (hint_of b) s g t e)) is)) in
+    (λ h k e. subst (λ (r : Result Told Fault). Sifted wrapping w g r c.map_err.result) e (placed-on wrapping w g t t.x c.judge.result c.map_err.result (c.judge.ensures (upright (hint_of b) (standing (size b) h) g t e)) is)) in
     record { step = step; skipped = skipped_soundly b w g wrapping c.map_err.result step.answers }

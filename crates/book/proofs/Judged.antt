@@ -1,6 +1,6 @@
 -- The parts of a verdict, put together.
 use Rattle.std.proofs.Common.{◌≡◌, Bool, true, false, cond, not, ◌&&◌, T, List, MatchOption, Some, None, Ok, Err, Option, Result, sym, refl, ap, ◌∙◌, subst, arith}
-use lib.Ieee.{Float, le, lt, is_nan}
+use lib.Ieee.{Float, le, is_nan}
 use Rattle.number.specs.Values.{Held}
 use Rattle.interval.specs.declared.fault.Fault.{Fault}
 use Rattle.interval.specs.declared.kinds.Interval.{Interval}
@@ -26,24 +26,11 @@ use Rattle.book.specs.Windows.{Frame, Firm, IfAsked, Shares, SharesAll, Decides,
 use Rattle.book.specs.Verdicts.{SharesIf, AskedIf, Upright, UprightIf, pair_of, optional_pair, refused_if}
 
 -- a stored pair of numbers covers its lower end
-pub stored-lower : (e : Pair) → Held e.lo → T (not (is_nan e.lo)) → Inhabited (stored e)
+stored-lower : (e : Pair) → Held e.lo → T (not (is_nan e.lo)) → Inhabited (stored e)
 stored-lower e h n = (e.lo, (h, n), let l = le_refl e.lo n in grind arith)
 
 -- ---- one axis
-told-shares : (e : Pair) (s : Set) (r : Bool) → Held e.lo → Meets (between e) s r → SharesIf (Some e) s r
-told-shares e s r h m up =
-    let is : (v : Float) → stored e v ≡ between e v = λ v. grind arith in (
-      (λ t i.
-          let (v, V, p, q) = m.only t (e.lo, (h, le_left e.lo e.hi up), let l = le_refl e.lo (le_left e.lo e.hi up) in grind arith) i in
-          (v, V, subst T (sym (is v)) p, q)),
-      λ (v, V, p, q). m.always (v, V, subst T (is v) p, q),
-    )
-
-pub told-shares-if : (o : Option Interval) (s : Set) (r : Bool) → MatchOption o (r ≡ false) (λ i. Meets (between (ends i)) s r) → SharesIf (optional o) s r
-told-shares-if None s r h = h
-told-shares-if (Some i) s r h = told-shares (ends i) s r i.held.0 h
-
-pub taken_shares : (covered s : Set) (e : Pair) (r : Bool) → Held e.lo → T (not (is_nan e.lo)) → Equal covered (stored e) → Meets covered s r → (T r → Inhabited s → Common (stored e) s) × (Common (stored e) s → T r)
+taken_shares : (covered s : Set) (e : Pair) (r : Bool) → Held e.lo → T (not (is_nan e.lo)) → Equal covered (stored e) → Meets covered s r → (T r → Inhabited s → Common (stored e) s) × (Common (stored e) s → T r)
 taken_shares covered s e r h n eq m = (
   (λ t i.
       let (w, W, k) = stored-lower e h n in
@@ -51,6 +38,14 @@ taken_shares covered s e r h n eq m = (
       (v, V, subst T (eq v V) p, q)),
   λ (v, V, p, q). m.always (v, V, subst T (sym (eq v V)) p, q),
 )
+
+-- ordinary ends that go up cover what Parquet gives their pair
+told-shares : (e : Pair) (s : Set) (r : Bool) → Held e.lo → Meets (between e) s r → SharesIf (Some e) s r
+told-shares e s r h m up = taken_shares (between e) s e r h (le_left e.lo e.hi up) (λ v V. grind arith) m
+
+pub told-shares-if : (o : Option Interval) (s : Set) (r : Bool) → MatchOption o (r ≡ false) (λ i. Meets (between (ends i)) s r) → SharesIf (optional o) s r
+told-shares-if None s r h = h
+told-shares-if (Some i) s r h = told-shares (ends i) s r i.held.0 h
 
 told-yes : (o : Option Pair) (s : Set) (r : Bool) → SharesIf o s r → UprightIf o → T r → Inhabited s → Shares o s
 told-yes None s r h u t i = absurd (subst T h t)
@@ -69,12 +64,8 @@ asked_no o None r h u k = subst T (sym h) tt
 asked_no o (Some s) r h u k = told-no o s r h u k
 
 -- ---- all axes
-pub lower-number : (wrapping : Bool) (e : Pair) → refusal wrapping e ≡ None → T (not (is_nan e.lo))
-lower-number wrapping e h = go (is_nan e.lo) refl
-  where
-    go : (b : Bool) → is_nan e.lo ≡ b → T (not (is_nan e.lo))
-    go true p = absurd (cc)
-    go false p = rw p tt
+lower-number : (wrapping : Bool) (e : Pair) → refusal wrapping e ≡ None → T (not (is_nan e.lo))
+lower-number wrapping e h = grind arith
 
 module _ (wrapping : Bool) (t : Told) (w : Frame) (e : Pair) (covered : Set) (x y z m : Bool) (is : t.x ≡ Some e) (held : Held e.lo) (granted : refusal wrapping e ≡ None) (eq : Equal covered (stored e)) (meets : Meets covered w.x x) (u : Upright t)
     (Y : SharesIf t.y w.y y) (Z : AskedIf t.z w.z z) (M : AskedIf t.m w.m m) where
@@ -163,13 +154,7 @@ taken_inhabited covered wrapping e h granted eq = let (v, V, k) = stored-lower e
 
 -- an ordinary pair that is granted goes up
 goes_up : (e : Pair) → refusal false e ≡ None → T (le e.lo e.hi)
-goes_up e h = go (is_nan e.lo) (is_nan e.hi) (lt e.hi e.lo) refl refl refl
-  where
-    go : (a b c : Bool) → is_nan e.lo ≡ a → is_nan e.hi ≡ b → lt e.hi e.lo ≡ c → T (le e.lo e.hi)
-    go true b c p q r = absurd (cc)
-    go false true c p q r = absurd (cc)
-    go false false true p q r = absurd (cc)
-    go false false false p q r = let l = lt-is_not_le e.hi e.lo (rw q tt) (rw p tt) in grind arith
+goes_up e h = let l = lt-is_not_le e.hi e.lo in grind arith
 
 pub asked_inhabited : (o : Option (Float × Float)) (i : Option Interval) → refused_if o ≡ None → optional i ≡ optional_pair o → IfAsked Inhabited (optional_set i)
 asked_inhabited o None granted e = tt

@@ -29,7 +29,7 @@ use Rattle.book.specs.Promises.{tells, record_at}
 use Rattle.book.specs.Room.{usable}
 use Rattle.book.specs.Standing.{Standing, Call, Brought, moves, asks, standing, start, run, step, after, done, ruling, outcome, verdict}
 use Rattle.book.specs.Answers.{added}
-use Rattle.book.specs.Keeping.{Pending, Keeps, KeptBy, Replaced, Step, ToldTruly, Written, WrittenBy, size, hint_of}
+use Rattle.book.specs.Keeping.{Pending, Keeps, KeptBy, Moved, Replaced, Step, ToldTruly, Written, WrittenBy, size, hint_of}
 use Rattle.book.proofs.Promised.{skips-soundly, tells-truly}
 
 pub run-push : (len : ℕ) (s : Standing) (h : List Call) (c : Call) → run len s (h ++ c ∷ []) ≡ step len (run len s h) c
@@ -85,7 +85,7 @@ asked b answering = stepped b b asks _ refl refl refl refl (λ s k. refl) (λ s 
 
 -- a call that the rule refuses changes nothing
 pub refused : (b : Book) (a : Asked) (x : Brought) (f : Fault) (r : Result (Unit {0}) Fault) → IsErrAnd r (λ g. g ≡ f) → Err f ≡ ruling b.state b.closed (usable (size b)) a
-    → Step b b (moves a x) (λ s. r ≡ added (verdict (size b) s a x))
+    → Moved b b a x (λ _. added) r
 refused b a x f r e h =
     let (g, is, same) = err_from_is_err_and r e in
     moved b b a x (Err f) _ (ap (λ (u : Result Deed Fault). outcome u a x) h) refl refl refl refl (λ s k. refl) (λ s k. k) (λ s k u. is ∙ ap (λ (g : Fault). Err g) same ∙ ap added (sym u))
@@ -93,7 +93,7 @@ refused b a x f r e h =
 -- a call that the rule grants does its deed
 pub does : (b b' : Book) (a : Asked) (xs : List Shape) (d : Deed) (r : Result (Unit {0}) Fault) → r ≡ Ok tt → Ok d ≡ ruling b.state b.closed (usable (size b)) a → size b' ≡ size b → hint_of b' ≡ hint_of b → b'.table.ghost_name ≡ b.table.ghost_name
     → b'.pending.ghost_name ≡ b.pending.ghost_name → ((s : Standing) → KeptBy s b → WrittenBy (hint_of b) s b.table.now b'.table.now (Ok d)) → ((s : Standing) → KeptBy s b → KeptUnder (hint_of b) (done s xs d) b')
-    → Step b b' (moves a (Ok xs)) (λ s. r ≡ added (verdict (size b) s a (Ok xs)))
+    → Moved b b' a (Ok xs) (λ _. added) r
 does b b' a xs d r is h same hints names names₂ writing keeping =
     moved b b' a (Ok xs) (Ok d) _ (ap (λ (u : Result Deed Fault). outcome u a (Ok xs)) h) same hints names names₂ writing keeping (λ s k u. is ∙ ap added (sym u))
 
@@ -119,8 +119,8 @@ reworded t f =
     }
 
 -- the same call by an equal thing brought
-pub brought : (b b' : Book) (a : Asked) (x y : Brought) (r : Result (Unit {0}) Fault) → x ≡ y → Step b b' (moves a y) (λ s. r ≡ added (verdict (size b) s a y)) → Step b b' (moves a x) (λ s. r ≡ added (verdict (size b) s a x))
-brought b b' a x y r e t = subst (λ (z : Brought). Step b b' (moves a z) (λ s. r ≡ added (verdict (size b) s a z))) (sym e) t
+pub brought : (b b' : Book) (a : Asked) (x y : Brought) (r : Result (Unit {0}) Fault) → x ≡ y → Moved b b' a y (λ _. added) r → Moved b b' a x (λ _. added) r
+brought b b' a x y r e t = subst (λ (z : Brought). Moved b b' a z (λ _. added) r) (sym e) t
 
 -- ---- shapes that f64s hold
 held-append : (a b : List Shape) → HeldShapes a → HeldShapes b → HeldShapes (a ++ b)

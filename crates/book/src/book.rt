@@ -5,10 +5,10 @@ ghost use Rattle.shapes.specs.Wkb.{decode};
 ghost use Rattle.bounding.specs.Laws.{merged_from};
 ghost use Rattle.bounding.specs.Walk.{empty_record, kept};
 ghost use Rattle.book.specs.Answers.{added, brought_by, given, returned, told_by};
-ghost use Rattle.book.specs.Keeping.{KeptBy, SkippedSoundly, Step, ToldTruly, hint_of, size};
+ghost use Rattle.book.specs.Keeping.{KeptBy, Moved, SkippedSoundly, Step, ToldTruly, hint_of, size};
 ghost use Rattle.book.specs.Promises.{tells};
 ghost use Rattle.book.specs.Room.{usable};
-ghost use Rattle.book.specs.Standing.{asks, moves, ruling, start, verdict};
+ghost use Rattle.book.specs.Standing.{asks, ruling, start};
 ghost use Rattle.book.specs.Verdicts.{frame_of};
 ghost use Rattle.book.specs.Windows as Windows;
 ghost use Rattle.book.specs.Windows.{Sifted};
@@ -56,7 +56,7 @@ impl<'a> Book<'a> {
 
     // Does what the call asks, or refuses. An add puts no shape here.
     fn apply(&mut self, asked: Asked) -> Result<(), Fault>
-        ensures { Step self.old self.new (moves asked (Ok [])) (λ s. result ≡ added (verdict (size self.old) s asked (Ok []))) }
+        ensures { Moved self.old self.new asked (Ok []) (λ _. added) result }
     {
         match self.ruled(asked)? {
             Deed::Begin => {
@@ -83,7 +83,7 @@ impl<'a> Book<'a> {
     }
 
     pub fn open(&mut self) -> Result<Slip, Fault>
-        ensures { Step self.old self.new (moves Asked.Open (Ok [])) (λ s. result ≡ given (length s.pages) (verdict (size self.old) s Asked.Open (Ok []))) }
+        ensures { Moved self.old self.new Asked.Open (Ok []) (λ s. given (length s.pages)) result }
     {
         let page = self.closed;
         self.apply(Asked::Open)?;
@@ -91,7 +91,7 @@ impl<'a> Book<'a> {
     }
 
     pub fn retake(&mut self, page: usize) -> Result<Slip, Fault>
-        ensures { Step self.old self.new (moves (Asked.Retake page) (Ok [])) (λ s. result ≡ given page (verdict (size self.old) s (Asked.Retake page) (Ok []))) }
+        ensures { Moved self.old self.new (Asked.Retake page) (Ok []) (λ _. given page) result }
     {
         self.apply(Asked::Retake(page))?;
         Ok(Slip { page })
@@ -99,7 +99,7 @@ impl<'a> Book<'a> {
 
     // Gives the slip up for what is asked, or gives it back with the refusal.
     fn spend(&mut self, slip: Slip, asked: Asked) -> Result<usize, (Fault, Slip)>
-        ensures { Step self.old self.new (moves asked (Ok [])) (λ s. result ≡ returned slip.page (verdict (size self.old) s asked (Ok []))) }
+        ensures { Moved self.old self.new asked (Ok []) (λ _. returned slip.page) result }
     {
         match self.apply(asked) {
             Ok(()) => {
@@ -111,14 +111,14 @@ impl<'a> Book<'a> {
     }
 
     pub fn close(&mut self, slip: Slip) -> Result<usize, (Fault, Slip)>
-        ensures { Step self.old self.new (moves (Asked.Close slip.page) (Ok [])) (λ s. result ≡ returned slip.page (verdict (size self.old) s (Asked.Close slip.page) (Ok []))) }
+        ensures { Moved self.old self.new (Asked.Close slip.page) (Ok []) (λ _. returned slip.page) result }
     {
         let asked = Asked::Close(slip.page);
         self.spend(slip, asked)
     }
 
     pub fn discard(&mut self, slip: Slip) -> Result<usize, (Fault, Slip)>
-        ensures { Step self.old self.new (moves (Asked.Discard slip.page) (Ok [])) (λ s. result ≡ returned slip.page (verdict (size self.old) s (Asked.Discard slip.page) (Ok []))) }
+        ensures { Moved self.old self.new (Asked.Discard slip.page) (Ok []) (λ _. returned slip.page) result }
     {
         let asked = Asked::Discard(slip.page);
         self.spend(slip, asked)
@@ -126,7 +126,7 @@ impl<'a> Book<'a> {
 
     // Adds the shape of a source, which is read to its end. Where the slip is refused, the source is not read.
     pub fn add<S: ShapeSource>(&mut self, slip: &Slip, source: &mut S) -> Result<(), Fault>
-        ensures step { Step self.old self.new (moves (Asked.Add slip.now.page) (Ok (S.ShapeSource.means source.old ∷ []))) (λ s. result ≡ added (verdict (size self.old) s (Asked.Add slip.now.page) (Ok (S.ShapeSource.means source.old ∷ [])))) }
+        ensures step { Moved self.old self.new (Asked.Add slip.now.page) (Ok (S.ShapeSource.means source.old ∷ [])) (λ _. added) result }
         ensures source { MatchResult result (λ _. (S.ShapeSource.means source.new).coords ≡ []) (λ _. source.new ≡ source.old) }
     {
         self.ruled(Asked::Add(slip.page))?;
@@ -136,7 +136,7 @@ impl<'a> Book<'a> {
 
     // Adds the shape that the bytes hold. A fault of the bytes is passed on with the page.
     pub fn add_wkb(&mut self, slip: &Slip, bytes: &[u8]) -> Result<(), Fault>
-        ensures { Step self.old self.new (moves (Asked.Add slip.now.page) (brought_by (decode bytes.now))) (λ s. result ≡ added (verdict (size self.old) s (Asked.Add slip.now.page) (brought_by (decode bytes.now)))) }
+        ensures { Moved self.old self.new (Asked.Add slip.now.page) (brought_by (decode bytes.now)) (λ _. added) result }
     {
         self.ruled(Asked::Add(slip.page))?;
         self.pending

@@ -1,6 +1,6 @@
 -- The parts of a verdict, put together.
-use Rattle.std.proofs.Common.{◌≡◌, ℕ, Bool, true, false, cond, not, ◌&&◌, T, List, Some, None, Ok, Err, Option, Result, sym, refl, ap, ◌∙◌, subst, arith}
-use lib.Ieee.{Float, le, lt, is_nan}
+use Rattle.std.proofs.Common.{◌≡◌, Bool, true, false, cond, not, ◌&&◌, T, List, MatchOption, Some, None, Ok, Err, Option, Result, sym, refl, ap, ◌∙◌, subst, arith}
+use lib.Ieee.{Float, le, is_nan}
 use Rattle.number.specs.Values.{Held}
 use Rattle.interval.specs.declared.fault.Fault.{Fault}
 use Rattle.interval.specs.declared.kinds.Interval.{Interval}
@@ -17,7 +17,7 @@ use Rattle.bounding.proofs.Takes.{gather-upright}
 use Rattle.book.specs.declared.states.Target.{Target}
 use Rattle.book.specs.declared.states.Target.TheVariants.{Column}
 use Rattle.book.specs.declared.states.Verdict.{Verdict}
-use Rattle.book.specs.declared.states.Verdict.TheVariants.{Skip}
+use Rattle.book.specs.declared.states.Verdict.TheVariants.{Skip, Keep}
 use Rattle.book.specs.declared.held.Book.{Book}
 use Rattle.book.specs.Standing.{Call, standing}
 use Rattle.book.specs.Promises.{tells}
@@ -27,20 +27,11 @@ use Rattle.book.specs.Windows.{Frame, Firm, IfAsked, Shares, SharesAll, Decides,
 use Rattle.book.specs.Verdicts.{SharesIf, AskedIf, Upright, UprightIf, pair_of, optional_pair, refused_if}
 
 -- a stored pair of numbers covers its lower end
-pub stored-lower : (e : Pair) → Held e.lo → T (not (is_nan e.lo)) → Inhabited (stored e)
+stored-lower : (e : Pair) → Held e.lo → T (not (is_nan e.lo)) → Inhabited (stored e)
 stored-lower e h n = (e.lo, (h, n), let l = le_refl e.lo n in grind arith)
 
 -- ---- one axis
-pub told-shares : (e : Pair) (s : Set) (r : Bool) → Held e.lo → Meets (between e) s r → SharesIf (Some e) s r
-told-shares e s r h m up =
-    let is : (v : Float) → stored e v ≡ between e v = λ v. grind arith in (
-      (λ t i.
-          let (v, V, p, q) = m.only t (e.lo, (h, le_left e.lo e.hi up), let l = le_refl e.lo (le_left e.lo e.hi up) in grind arith) i in
-          (v, V, subst T (sym (is v)) p, q)),
-      λ (v, V, p, q). m.always (v, V, subst T (is v) p, q),
-    )
-
-pub taken_shares : (covered s : Set) (e : Pair) (r : Bool) → Held e.lo → T (not (is_nan e.lo)) → Equal covered (stored e) → Meets covered s r → (T r → Inhabited s → Common (stored e) s) × (Common (stored e) s → T r)
+taken_shares : (covered s : Set) (e : Pair) (r : Bool) → Held e.lo → T (not (is_nan e.lo)) → Equal covered (stored e) → Meets covered s r → (T r → Inhabited s → Common (stored e) s) × (Common (stored e) s → T r)
 taken_shares covered s e r h n eq m = (
   (λ t i.
       let (w, W, k) = stored-lower e h n in
@@ -48,6 +39,14 @@ taken_shares covered s e r h n eq m = (
       (v, V, subst T (eq v V) p, q)),
   λ (v, V, p, q). m.always (v, V, subst T (sym (eq v V)) p, q),
 )
+
+-- ordinary ends that go up cover what Parquet gives their pair
+told-shares : (e : Pair) (s : Set) (r : Bool) → Held e.lo → Meets (between e) s r → SharesIf (Some e) s r
+told-shares e s r h m up = taken_shares (between e) s e r h (le_left e.lo e.hi up) (λ v V. grind arith) m
+
+pub told-shares-if : (o : Option Interval) (s : Set) (r : Bool) → MatchOption o (r ≡ false) (λ i. Meets (between (ends i)) s r) → SharesIf (optional o) s r
+told-shares-if None s r h = h
+told-shares-if (Some i) s r h = told-shares (ends i) s r i.held.0 h
 
 told-yes : (o : Option Pair) (s : Set) (r : Bool) → SharesIf o s r → UprightIf o → T r → Inhabited s → Shares o s
 told-yes None s r h u t i = absurd (subst T h t)
@@ -66,9 +65,15 @@ asked_no o None r h u k = subst T (sym h) tt
 asked_no o (Some s) r h u k = told-no o s r h u k
 
 -- ---- all axes
-module _ (t : Told) (w : Frame) (e : Pair) (x y z m : Bool) (is : t.x ≡ Some e) (u : Upright t)
-    (X : (T x → Inhabited w.x → Common (stored e) w.x) × (Common (stored e) w.x → T x)) (Y : SharesIf t.y w.y y) (Z : AskedIf t.z w.z z) (M : AskedIf t.m w.m m) where
-  pub keeps : T (x && y && z && m) → Firm w → SharesAll t w
+lower-number : (wrapping : Bool) (e : Pair) → refusal wrapping e ≡ None → T (not (is_nan e.lo))
+lower-number wrapping e h = grind arith
+
+module _ (wrapping : Bool) (t : Told) (w : Frame) (e : Pair) (covered : Set) (x y z m : Bool) (is : t.x ≡ Some e) (held : Held e.lo) (granted : refusal wrapping e ≡ None) (eq : Equal covered (stored e)) (meets : Meets covered w.x x) (u : Upright t)
+    (Y : SharesIf t.y w.y y) (Z : AskedIf t.z w.z z) (M : AskedIf t.m w.m m) where
+  X : (T x → Inhabited w.x → Common (stored e) w.x) × (Common (stored e) w.x → T x)
+  X = taken_shares covered w.x e x held (lower-number wrapping e granted) eq meets
+
+  keeps : T (x && y && z && m) → Firm w → SharesAll t w
   keeps h f =
       let a : T x = grind arith in
       let b : T y = grind arith in
@@ -81,7 +86,7 @@ module _ (t : Told) (w : Frame) (e : Pair) (x y z m : Bool) (is : t.x ≡ Some e
         m = asked_yes t.m w.m m M u.m d f.m;
       }
 
-  pub skips : (x && y && z && m) ≡ false → SharesAll t w → ⊥
+  skips : (x && y && z && m) ≡ false → SharesAll t w → ⊥
   skips h k =
       let a : T x = X.1 (subst (λ (o : Option Pair). Shares o w.x) is k.x) in
       let b : T y = told-no t.y w.y y Y u.y k.y in
@@ -89,17 +94,15 @@ module _ (t : Told) (w : Frame) (e : Pair) (x y z m : Bool) (is : t.x ≡ Some e
       let d : T m = asked_no t.m w.m m M u.m k.m in
       grind arith
 
--- ---- the verdict
-pub lower-number : (wrapping : Bool) (e : Pair) → refusal wrapping e ≡ None → T (not (is_nan e.lo))
-lower-number wrapping e h = go (is_nan e.lo) refl
-  where
-    go : (b : Bool) → is_nan e.lo ≡ b → T (not (is_nan e.lo))
-    go true p = let z : ◌≡◌ {A = ℕ} 0 1 = cc in absurd (omega arith)
-    go false p = rw p tt
+  decides : (b : Bool) → (x && y && z && m) ≡ b → Decides w t (cond b Keep Skip)
+  decides true h = keeps (subst T (sym h) tt)
+  decides false h = skips h
 
-pub tested : (wrapping : Bool) (w : Frame) (t : Told) (e : Pair) (v : Verdict) → t.x ≡ Some e → refusal wrapping e ≡ None → Decides w t v → TestedX wrapping w Column t t.x (Ok v)
-tested wrapping w t e v is granted d =
-    subst (λ (o : Option Pair). TestedX wrapping w Column t o (Ok v)) (sym is) (subst (λ (f : Option Fault). Tested w Column t f (Ok v)) (sym granted) (v, refl, d))
+  -- the verdict, from whether each axis meets
+  pub judged : (v : Verdict) → v ≡ cond (x && y && z && m) Keep Skip → TestedX wrapping w Column t t.x (Ok v)
+  judged v h =
+      subst (λ (o : Option Pair). TestedX wrapping w Column t o (Ok v)) (sym is)
+      (subst (λ (f : Option Fault). Tested w Column t f (Ok v)) (sym granted) (v, refl, subst (Decides w t) (sym h) (decides (x && y && z && m) refl)))
 
 -- ---- what is told of shapes goes up
 upright_axis : (f : Axis) (rs : List Run) → UprightIf (shown (gather f every rs) (gather f every rs))
@@ -113,25 +116,22 @@ pub told-upright : (hint : Pair) (ss : List Shape) → Upright (told hint (recor
 told-upright hint ss = record { y = upright_axis ys (runs_of ss); z = upright_axis zs (runs_of ss); m = upright_axis ms (runs_of ss) }
 
 -- ---- a verdict on a page
-granted-on : (w : Frame) (g : Target) (t : Told) (o : Option Fault) (v : Verdict) → Tested w Column t o (Ok v) → Tested w g t o (Ok v)
-granted-on w g t (Some f) v h = let z : ◌≡◌ {A = ℕ} 0 1 = cc in absurd (omega arith)
-granted-on w g t None v h = h
+abbrev pub placed-in : Target → Result Verdict Fault → Result Verdict Fault
+placed-in g (Ok v) = Ok v
+placed-in g (Err f) = Err (placed g f)
 
-pub verdict-on : (wrapping : Bool) (w : Frame) (g : Target) (t : Told) (o : Option Pair) (v : Verdict) → TestedX wrapping w Column t o (Ok v) → TestedX wrapping w g t o (Ok v)
-verdict-on wrapping w g t None v h = h
-verdict-on wrapping w g t (Some e) v h = granted-on w g t (refusal wrapping e) v h
+placed-tested : (w : Frame) (g : Target) (t : Told) (o : Option Fault) (r q : Result Verdict Fault) → Tested w Column t o r → q ≡ placed-in g r → Tested w g t o q
+placed-tested w g t (Some f) r q h e = e ∙ ap (placed-in g) h
+placed-tested w g t None r q (v, h, d) e = (v, e ∙ ap (placed-in g) h, d)
 
-refused-on : (w : Frame) (g : Target) (t : Told) (o : Option Fault) (f : Fault) → Tested w Column t o (Err f) → Tested w g t o (Err (placed g f))
-refused-on w g t (Some e) f h = let same : f ≡ e = cc in ap (λ (x : Fault). Err (placed g x)) same
-refused-on w g t None f (v, h, d) = let z : ◌≡◌ {A = ℕ} 0 1 = cc in absurd (omega arith)
-
-pub refusal-on : (wrapping : Bool) (w : Frame) (g : Target) (t : Told) (o : Option Pair) (f : Fault) → TestedX wrapping w Column t o (Err f) → TestedX wrapping w g t o (Err (placed g f))
-refusal-on wrapping w g t None f h = let z : ◌≡◌ {A = ℕ} 0 1 = cc in absurd (omega arith)
-refusal-on wrapping w g t (Some e) f h = refused-on w g t (refusal wrapping e) f h
+-- the same verdict, or the refusal with the page
+pub placed-on : (wrapping : Bool) (w : Frame) (g : Target) (t : Told) (o : Option Pair) (r q : Result Verdict Fault) → TestedX wrapping w Column t o r → q ≡ placed-in g r → TestedX wrapping w g t o q
+placed-on wrapping w g t None r q h e = e ∙ ap (placed-in g) h
+placed-on wrapping w g t (Some x) r q h e = placed-tested w g t (refusal wrapping x) r q h e
 
 -- ---- a skip
 apart_tested : (w : Frame) (g : Target) (t : Told) (o : Option Fault) → Tested w g t o (Ok Skip) → SharesAll t w → ⊥
-apart_tested w g t (Some f) h k = let z : ◌≡◌ {A = ℕ} 0 1 = cc in omega arith
+apart_tested w g t (Some f) h k = cc
 apart_tested w g t None (v, e, d) k = let same : v ≡ Skip = cc in subst (Decides w t) same d k
 
 apart_x : (wrapping : Bool) (w : Frame) (g : Target) (t : Told) (o : Option Pair) → t.x ≡ o → TestedX wrapping w g t o (Ok Skip) → SharesAll t w → ⊥
@@ -139,7 +139,7 @@ apart_x wrapping w g t None is h k = subst (λ (o : Option Pair). Shares o w.x) 
 apart_x wrapping w g t (Some e) is h k = apart_tested w g t (refusal wrapping e) h k
 
 apart : (wrapping : Bool) (w : Frame) (g : Target) (r : Result Told Fault) → Sifted wrapping w g r (Ok Skip) → (t : Told) × (r ≡ Ok t) × (SharesAll t w → ⊥)
-apart wrapping w g (Err f) h = let z : ◌≡◌ {A = ℕ} 0 1 = cc in absurd (omega arith)
+apart wrapping w g (Err f) h = absurd (cc)
 apart wrapping w g (Ok t) h = (t, refl, apart_x wrapping w g t t.x refl h)
 
 pub skipped_soundly : (b : Book) (w : Frame) (g : Target) (wrapping : Bool) (r : Result Verdict Fault)
@@ -155,17 +155,11 @@ taken_inhabited covered wrapping e h granted eq = let (v, V, k) = stored-lower e
 
 -- an ordinary pair that is granted goes up
 goes_up : (e : Pair) → refusal false e ≡ None → T (le e.lo e.hi)
-goes_up e h = go (is_nan e.lo) (is_nan e.hi) (lt e.hi e.lo) refl refl refl
-  where
-    go : (a b c : Bool) → is_nan e.lo ≡ a → is_nan e.hi ≡ b → lt e.hi e.lo ≡ c → T (le e.lo e.hi)
-    go true b c p q r = let z : ◌≡◌ {A = ℕ} 0 1 = cc in absurd (omega arith)
-    go false true c p q r = let z : ◌≡◌ {A = ℕ} 0 1 = cc in absurd (omega arith)
-    go false false true p q r = let z : ◌≡◌ {A = ℕ} 0 1 = cc in absurd (omega arith)
-    go false false false p q r = let l = lt-is_not_le e.hi e.lo (rw q tt) (rw p tt) in grind arith
+goes_up e h = let l = lt-is_not_le e.hi e.lo in grind arith
 
 pub asked_inhabited : (o : Option (Float × Float)) (i : Option Interval) → refused_if o ≡ None → optional i ≡ optional_pair o → IfAsked Inhabited (optional_set i)
 asked_inhabited o None granted e = tt
-asked_inhabited None (Some i) granted e = let z : ◌≡◌ {A = ℕ} 0 1 = cc in absurd (omega arith)
+asked_inhabited None (Some i) granted e = absurd (cc)
 asked_inhabited (Some p) (Some i) granted e =
     let same : ends i ≡ pair_of p = cc in
     let up : T (le i.lo i.hi) = goes_up (ends i) (ap (refusal false) same ∙ granted) in

@@ -1,10 +1,11 @@
 -- One call, from what the rule said of it.
-use Rattle.std.proofs.Common.{◌≡◌, ℕ, zero, suc, ◌+◌, ◌<◌, ◌≤◌, List, [], ◌∷◌, ◌++◌, map, length, get_or, take, set, Some, None, Ok, Err, Option, Result, sym, refl, ap, ◌∙◌, subst, ap₂, inl, inr, append-nil, arith, length-take}
+use Rattle.std.proofs.Common.{◌≡◌, ℕ, zero, suc, ◌+◌, ◌<◌, ◌≤◌, List, [], ◌∷◌, ◌++◌, map, length, get_or, take, set, Ok, Err, Result, sym, refl, ap, ◌∙◌, subst, ap₂, ◌⊎◌, inl, inr, IsErrAnd, MatchResult, append-nil, arith, length-take}
 use mathlib.Core.List.Memᴰ
 use mathlib.Core.List.{Memᴰ}
 use lib.Seq.{map-set, take-set-lt}
 use Rattle.std.proofs.lemmas.List.{take_more_set, map_push, length_push, length-set, get_or-take, get_or-map}
 use Rattle.std.proofs.lemmas.Bool.{cond_below, cond_above}
+use Rattle.std.proofs.lemmas.Result.{err_from_is_err_and}
 use Rattle.interval.specs.declared.fault.Fault.{Fault}
 use Rattle.interval.specs.declared.fault.Cause.TheVariants.{NoSuchPage}
 use Rattle.interval.specs.Faults.{at}
@@ -19,16 +20,16 @@ use Rattle.bounding.proofs.Walks.{no_shapes}
 use Rattle.book.specs.declared.held.Book.{Book}
 use Rattle.book.specs.declared.states.Asked.{Asked}
 use Rattle.book.specs.declared.states.Deed.{Deed}
-use Rattle.book.specs.declared.states.Deed.TheVariants.{Begin, Again, Put, Append, Replace, Forget}
+use Rattle.book.specs.declared.states.Deed.TheVariants.{Put, Append, Replace}
 use Rattle.book.specs.declared.states.State.{State}
 use Rattle.book.specs.declared.states.State.TheVariants.{Idle, Filling, Refilling}
 use Rattle.book.specs.declared.states.Target.{Target}
 use Rattle.book.specs.declared.states.Target.TheVariants.{Page, Column}
 use Rattle.book.specs.Promises.{tells, record_at}
 use Rattle.book.specs.Room.{usable}
-use Rattle.book.specs.Standing.{Standing, Call, Brought, moves, standing, start, run, step, after, done, granted, ruling, outcome, verdict}
-use Rattle.book.specs.Answers.{given, added, returned}
-use Rattle.book.specs.Keeping.{Pending, Keeps, KeptBy, Step, ToldTruly, Written, WrittenBy, size, hint_of}
+use Rattle.book.specs.Standing.{Standing, Call, Brought, moves, asks, standing, start, run, step, after, done, ruling, outcome, verdict}
+use Rattle.book.specs.Answers.{added}
+use Rattle.book.specs.Keeping.{Pending, Keeps, KeptBy, Moved, Replaced, Step, ToldTruly, Written, WrittenBy, size, hint_of}
 use Rattle.book.proofs.Promised.{skips-soundly, tells-truly}
 
 pub run-push : (len : ℕ) (s : Standing) (h : List Call) (c : Call) → run len s (h ++ c ∷ []) ≡ step len (run len s h) c
@@ -78,13 +79,33 @@ moved b b' a x v Answered said same hints names names₂ writing keeping answeri
     (λ s k. subst (λ (u : Result Deed Fault). KeptUnder (hint_of b) (after s x u) b') (sym (agreed k a x ∙ sym said)) (keeping s k))
     (λ s k. answering s k (agreed k a x ∙ sym said))
 
--- what the rule said, with the room as it is
-pub said : (q : State) (closed room room' : ℕ) (a : Asked) (x : Brought) (v : Result Deed Fault) → room ≡ room' → v ≡ ruling q closed room a → outcome v a x ≡ outcome (ruling q closed room' a) a x
-said q closed room room' a x v e r = ap (λ (u : Result Deed Fault). outcome u a x) (r ∙ ap (λ (n : ℕ). ruling q closed n a) e)
+-- a question changes nothing
+pub asked : (b : Book) {Answered : Standing → Type 0} → ((s : Standing) → KeptBy s b → Answered s) → Step b b asks Answered
+asked b answering = stepped b b asks _ refl refl refl refl (λ s k. refl) (λ s k. k) answering
+
+-- a call that the rule refuses changes nothing
+pub refused : (b : Book) (a : Asked) (x : Brought) (f : Fault) (r : Result (Unit {0}) Fault) → IsErrAnd r (λ g. g ≡ f) → Err f ≡ ruling b.state b.closed (usable (size b)) a
+    → Moved b b a x (λ _. added) r
+refused b a x f r e h =
+    let (g, is, same) = err_from_is_err_and r e in
+    moved b b a x (Err f) _ (ap (λ (u : Result Deed Fault). outcome u a x) h) refl refl refl refl (λ s k. refl) (λ s k. k) (λ s k u. is ∙ ap (λ (g : Fault). Err g) same ∙ ap added (sym u))
+
+-- a call that the rule grants does its deed
+pub does : (b b' : Book) (a : Asked) (xs : List Shape) (d : Deed) (r : Result (Unit {0}) Fault) → r ≡ Ok tt → Ok d ≡ ruling b.state b.closed (usable (size b)) a → size b' ≡ size b → hint_of b' ≡ hint_of b → b'.table.ghost_name ≡ b.table.ghost_name
+    → b'.pending.ghost_name ≡ b.pending.ghost_name → ((s : Standing) → KeptBy s b → WrittenBy (hint_of b) s b.table.now b'.table.now (Ok d)) → ((s : Standing) → KeptBy s b → KeptUnder (hint_of b) (done s xs d) b')
+    → Moved b b' a (Ok xs) (λ _. added) r
+does b b' a xs d r is h same hints names names₂ writing keeping =
+    moved b b' a (Ok xs) (Ok d) _ (ap (λ (u : Result Deed Fault). outcome u a (Ok xs)) h) same hints names names₂ writing keeping (λ s k u. is ∙ ap added (sym u))
+
+-- what `map_err` returns, by what it was called on
+pub by_variant : {T E D : Type 0} (r : Result T E) (q : Result T D) {P : T → Type 0} {Q : E → Type 0} {R : E → D → Type 0} → MatchResult r P Q → MatchResult r (λ x. q ≡ Ok x) (λ e. IsErrAnd q (R e))
+    → ((x : T) × P x × (q ≡ Ok x)) ⊎ ((e : E) × Q e × ((d : D) × (q ≡ Err d) × R e d))
+by_variant (Ok x) q p m = inl (x, p, m)
+by_variant (Err e) q p m = inr (e, p, err_from_is_err_and q m)
 
 -- the same call under another answer that follows from the first
-pub reworded : {b b' : Book} {c : Call} {P Q : Standing → Type 0} → Step b b' c P → ((s : Standing) → KeptBy s b → P s → Q s) → Step b b' c Q
-reworded {b} t f =
+pub reworded : {b b' : Book} {c : Call} {P Q : Standing → Type 0} → Step b b' c P → ((h : List Call) → KeptBy (standing (size b) h) b → P (standing (size b) h) → Q (standing (size b) h)) → Step b b' c Q
+reworded t f =
     record {
       same_size = t.same_size;
       same_hint = t.same_hint;
@@ -92,19 +113,14 @@ reworded {b} t f =
       same_pending = t.same_pending;
       writes = t.writes;
       keeps = t.keeps;
-      answers = λ h k. f (standing (size b) h) k (t.answers h k);
+      answers = λ h k. f h k (t.answers h k);
       skips = t.skips;
       tells = t.tells;
     }
 
 -- the same call by an equal thing brought
-pub brought : (b b' : Book) (a : Asked) (x y : Brought) (r : Result (Unit {0}) Fault) → x ≡ y → Step b b' (moves a y) (λ s. r ≡ added (verdict (size b) s a y)) → Step b b' (moves a x) (λ s. r ≡ added (verdict (size b) s a x))
-brought b b' a x y r e t = subst (λ (z : Brought). Step b b' (moves a z) (λ s. r ≡ added (verdict (size b) s a z))) (sym e) t
-
--- a granted call does its deed
-pub granted-is : (o : Option Fault) (d e : Deed) → Ok d ≡ granted o e → d ≡ e
-granted-is None d e h = cc
-granted-is (Some f) d e h = let z : ◌≡◌ {A = ℕ} 0 1 = cc in absurd (omega arith)
+pub brought : (b b' : Book) (a : Asked) (x y : Brought) (r : Result (Unit {0}) Fault) → x ≡ y → Moved b b' a y (λ _. added) r → Moved b b' a x (λ _. added) r
+brought b b' a x y r e t = subst (λ (z : Brought). Moved b b' a z (λ _. added) r) (sym e) t
 
 -- ---- shapes that f64s hold
 held-append : (a b : List Shape) → HeldShapes a → HeldShapes b → HeldShapes (a ++ b)
@@ -134,11 +150,9 @@ held-set (p ∷ ps) (suc n) c h k = held-append p (together (set ps n c)) (λ x 
 
 -- ---- what each deed leaves kept
 module _ {hint : Pair} {s : Standing} {table : List PageRecord} {pending : PageRecord} {closed : ℕ} {state : State} (k : Keeps hint s table pending closed state) where
-  pub begun : (xs : List Shape) (r : PageRecord) → kept r ≡ record_of hint [] → Keeps hint (done s xs Begin) table r closed Filling
-  begun xs r e = record { count = k.count; same_state = refl; records = k.records; open_list = e; held = k.held; held_open = held_none }
-
-  pub begun_again : (xs : List Shape) (n : ℕ) (r : PageRecord) → kept r ≡ record_of hint [] → Keeps hint (done s xs (Again n)) table r closed (Refilling n)
-  begun_again xs n r e = record { count = k.count; same_state = refl; records = k.records; open_list = e; held = k.held; held_open = held_none }
+  -- with an empty list in hand: a page is opened, or dropped
+  pub emptied : (q : State) (r : PageRecord) → Pending hint q r [] → Keeps hint (record { pages = s.pages; state = q; current = [] }) table r closed q
+  emptied q r e = record { count = k.count; same_state = refl; records = k.records; open_list = e; held = k.held; held_open = held_none }
 
   pub put : (x : Shape) (r : PageRecord) → Adds hint (kept pending) x (kept r) → HeldCoords x.coords → Keeps hint (done s (x ∷ []) Put) table r closed state
   put x r a h =
@@ -160,59 +174,47 @@ module _ {hint : Pair} {s : Standing} {table : List PageRecord} {pending : PageR
         held_open = subst HeldShapes (sym (append-nil s.current)) k.held_open;
       }
 
-  pub forgot : (xs : List Shape) → Keeps hint (done s xs Forget) table pending closed Idle
-  forgot xs = record { count = k.count; same_state = refl; records = k.records; open_list = tt; held = k.held; held_open = held_none }
+  -- the pending record, by the state
+  in_hand : (q : State) → state ≡ q → Pending hint q pending s.current
+  in_hand q e = subst (λ (q : State). Pending hint q pending s.current) e k.open_list
 
-  -- the open page's record, by the state
-  pub filled : state ≡ Filling → kept pending ≡ record_of hint s.current
-  filled e = subst (λ (q : State). Pending hint q pending s.current) e k.open_list
+  module _ (r : PageRecord) (same : r ≡ pending) where
+    pub appended : state ≡ Filling → closed < length table → Keeps hint (done s [] Append) (set table closed r) pending (closed + 1) Idle
+    appended e lt =
+        record {
+          count = ap (λ (n : ℕ). n + 1) k.count ∙ sym (length_push s.pages s.current);
+          same_state = refl;
+          records =
+              ap (map kept) (take_more_set table closed r lt) ∙ map_push kept (take closed table) r
+              ∙ ap₂ (λ (r : List Kept) (p : Kept). r ++ p ∷ []) k.records (ap kept same ∙ in_hand Filling e) ∙ sym (map_push (record_of hint) s.pages s.current);
+          open_list = tt;
+          held = held-push s.pages s.current k.held k.held_open;
+          held_open = held_none;
+        }
 
-  pub refilled : (n : ℕ) → state ≡ Refilling n → kept pending ≡ record_of hint s.current
-  refilled n e = subst (λ (q : State). Pending hint q pending s.current) e k.open_list
+    pub replaced : (n : ℕ) → state ≡ Refilling n → n < closed → Keeps hint (done s [] (Replace n)) (set table n r) pending closed Idle
+    replaced n e lt =
+        record {
+          count = k.count ∙ sym (length-set s.pages n s.current);
+          same_state = refl;
+          records =
+              ap (map kept) (take-set-lt closed table n r lt) ∙ map-set kept (take closed table) n r
+              ∙ ap₂ (λ (r : List Kept) (p : Kept). set r n p) k.records (ap kept same ∙ in_hand (Refilling n) e) ∙ sym (map-set (record_of hint) s.pages n s.current);
+          open_list = tt;
+          held = held-set s.pages n s.current k.held k.held_open;
+          held_open = held_none;
+        }
 
-  pub appended : (xs : List Shape) → state ≡ Filling → closed < length table → Keeps hint (done s xs Append) (set table closed pending) pending (closed + 1) Idle
-  appended xs e lt =
-      record {
-        count = ap (λ (n : ℕ). n + 1) k.count ∙ sym (length_push s.pages s.current);
-        same_state = refl;
-        records =
-            ap (map kept) (take_more_set table closed pending lt) ∙ map_push kept (take closed table) pending
-            ∙ ap₂ (λ (r : List Kept) (p : Kept). r ++ p ∷ []) k.records (filled e) ∙ sym (map_push (record_of hint) s.pages s.current);
-        open_list = tt;
-        held = held-push s.pages s.current k.held k.held_open;
-        held_open = held_none;
-      }
+    pub append-writes : state ≡ Filling → Replaced hint s (length s.pages) table (set table closed r)
+    append-writes e = (r, ap (λ (n : ℕ). set table n r) k.count, ap kept same ∙ in_hand Filling e)
 
-  pub replaced : (xs : List Shape) (n : ℕ) → state ≡ Refilling n → n < closed → Keeps hint (done s xs (Replace n)) (set table n pending) pending closed Idle
-  replaced xs n e lt =
-      record {
-        count = k.count ∙ sym (length-set s.pages n s.current);
-        same_state = refl;
-        records =
-            ap (map kept) (take-set-lt closed table n pending lt) ∙ map-set kept (take closed table) n pending
-            ∙ ap₂ (λ (r : List Kept) (p : Kept). set r n p) k.records (refilled n e) ∙ sym (map-set (record_of hint) s.pages n s.current);
-        open_list = tt;
-        held = held-set s.pages n s.current k.held k.held_open;
-        held_open = held_none;
-      }
+    pub replace-writes : (n : ℕ) → state ≡ Refilling n → Replaced hint s n table (set table n r)
+    replace-writes n e = (r, refl, ap kept same ∙ in_hand (Refilling n) e)
 
 -- ---- a new book
 pub nothing-kept : (hint : Pair) (table : List PageRecord) (pending : PageRecord) → Keeps hint start table pending 0 Idle
 nothing-kept hint table pending =
-    record { count = refl; same_state = refl; records = ap (map kept) (take-zero table); open_list = tt; held = unfold together in held_none; held_open = held_none }
-  where
-    take-zero : (t : List PageRecord) → take 0 t ≡ []
-    take-zero [] = refl
-    take-zero (r ∷ t) = refl
-
--- ---- answers
-pub given-added : (p : ℕ) (v : Result Deed Fault) → given p (added v) ≡ given p v
-given-added p (Ok d) = refl
-given-added p (Err f) = refl
-
-pub returned-added : (p : ℕ) (v : Result Deed Fault) → returned p (added v) ≡ returned p v
-returned-added p (Ok d) = refl
-returned-added p (Err f) = refl
+    record { count = refl; same_state = refl; records = refl; open_list = tt; held = unfold together in held_none; held_open = held_none }
 
 -- ---- what is told
 module _ {hint : Pair} {s : Standing} {table : List PageRecord} {pending : PageRecord} {closed : ℕ} {state : State} (k : Keeps hint s table pending closed state) where

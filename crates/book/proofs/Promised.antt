@@ -1,12 +1,9 @@
 -- The two promises, of every standing whose ordinates an f64 holds.
-use Rattle.std.proofs.Common.{◌≡◌, ℕ, zero, suc, Bool, true, false, cond, T, ltb, List, [], ◌∷◌, length, get_or, Some, None, Ok, Err, Option, Result, sym, refl, subst, inl, inr, arith}
+use Rattle.std.proofs.Common.{◌≡◌, ℕ, zero, suc, T, List, [], ◌∷◌, get_or, Some, None, Ok, Option, sym, refl, subst, inl, inr, arith}
 use mathlib.Core.List.Memᴰ
 use mathlib.Core.List.{Memᴰ}
 use lib.Ieee.{Float}
 use Rattle.std.proofs.lemmas.List.{get_or_past}
-use Rattle.interval.specs.declared.fault.Cause.TheVariants.{NoSuchPage}
-use Rattle.interval.specs.declared.fault.Fault.{Fault}
-use Rattle.interval.specs.Faults.{at}
 use Rattle.interval.specs.Laws.{Set}
 use Rattle.interval.specs.Pairs.{Pair, between}
 use Rattle.interval.proofs.Between.{none}
@@ -31,11 +28,7 @@ record-on hint s (Page n) = refl
 record-on hint s Column = merges_pages hint s.pages
 
 pub told-on : (hint : Pair) (s : Standing) (g : Target) (t : Told) → tells hint s g ≡ Ok t → t ≡ told hint (record_of hint (on s g))
-told-on hint s (Page n) t e = go (ltb n (length s.pages)) e
-  where
-    go : (k : Bool) → ◌≡◌ {A = Result Told Fault} (cond k (Ok (told hint (record_at hint s (Page n)))) (Err (at NoSuchPage n))) (Ok t) → t ≡ told hint (record_of hint (get_or s.pages n []))
-    go true h = cc
-    go false h = let z : ◌≡◌ {A = ℕ} 0 1 = cc in absurd (omega arith)
+told-on hint s (Page n) t e = grind arith
 told-on hint s Column t e = let h = record-on hint s Column in cc
 
 -- a page's shapes stand on the column

@@ -11,9 +11,10 @@ use Rattle.bounding.specs.Walk.{kept}
 use Rattle.book.specs.declared.held.Book.{Book}
 use Rattle.book.specs.declared.states.State.{State}
 use Rattle.book.specs.declared.states.State.TheVariants.{Idle, Filling, Refilling}
+use Rattle.book.specs.declared.states.Asked.{Asked}
 use Rattle.book.specs.declared.states.Deed.{Deed}
 use Rattle.book.specs.declared.states.Deed.TheVariants.{Begin, Again, Put, Append, Replace, Forget}
-use Rattle.book.specs.Standing.{Standing, Call, moves, asks, standing, verdict}
+use Rattle.book.specs.Standing.{Standing, Call, Brought, moves, asks, standing, verdict}
 use Rattle.book.specs.declared.states.Target.{Target}
 use Rattle.book.specs.declared.states.Target.TheVariants.{Column}
 use Rattle.book.specs.declared.states.Verdict.{Verdict}
@@ -74,6 +75,10 @@ pub record Step (b b' : Book) (c : Call) (Answered : Standing → Type 0) : Type
   pub answers : (h : List Call) → KeptBy (standing (size b) h) b → Answered (standing (size b) h)
   pub skips : (h : List Call) → KeptBy (standing (size b) h) b → SkippedHoldsNoMeetingRun (hint_of b) (standing (size b) (h ++ c ∷ []))
   pub tells : (h : List Call) → KeptBy (standing (size b) h) b → ColumnIgnoresOrderAndCopies (hint_of b) (standing (size b) (h ++ c ∷ []))
+
+-- a call that may change what stands, answered by its verdict
+abbrev pub Moved : {R : Type 0} → Book → Book → Asked → Brought → (Standing → Result Deed Fault → R) → R → Type 0
+Moved b b' a x answer r = Step b b' (moves a x) (λ s. r ≡ answer s (verdict (size b) s a x))
 
 -- ---- the promises on the answers themselves
 

@@ -5,10 +5,10 @@ ghost use Rattle.shapes.specs.Wkb.{decode};
 ghost use Rattle.bounding.specs.Laws.{merged_from};
 ghost use Rattle.bounding.specs.Walk.{empty_record, kept};
 ghost use Rattle.book.specs.Answers.{added, brought_by, given, returned, told_by};
-ghost use Rattle.book.specs.Keeping.{KeptBy, SkippedSoundly, Step, ToldTruly, hint_of, size};
+ghost use Rattle.book.specs.Keeping.{KeptBy, Moved, SkippedSoundly, Step, ToldTruly, hint_of, size};
 ghost use Rattle.book.specs.Promises.{tells};
 ghost use Rattle.book.specs.Room.{usable};
-ghost use Rattle.book.specs.Standing.{asks, moves, start, verdict};
+ghost use Rattle.book.specs.Standing.{asks, ruling, start};
 ghost use Rattle.book.specs.Verdicts.{frame_of};
 ghost use Rattle.book.specs.Windows as Windows;
 ghost use Rattle.book.specs.Windows.{Sifted};
@@ -47,52 +47,43 @@ impl<'a> Book<'a> {
         }
     }
 
-    // How many records of the table can be used.
-    fn room(&self) -> usize
-        ensures { result ≡ usable (size self.now) }
+    // What the rule says of the call as the book stands.
+    fn ruled(&self, asked: Asked) -> Result<Deed, Fault>
+        ensures { result ≡ ruling self.now.state self.now.closed (usable (size self.now)) asked }
     {
-        self.table.len().min(USABLE)
+        rule(self.state, self.closed, self.table.len().min(USABLE), asked)
     }
 
     // Does what the call asks, or refuses. An add puts no shape here.
     fn apply(&mut self, asked: Asked) -> Result<(), Fault>
-        ensures { Step self.old self.new (moves asked (Ok [])) (λ s. result ≡ added (verdict (size self.old) s asked (Ok []))) }
+        ensures { Moved self.old self.new asked (Ok []) (λ _. added) result }
     {
-        let room = self.room();
-        let closed = self.closed;
-        match rule(self.state, closed, room, asked) {
-            Ok(Deed::Begin) => {
+        match self.ruled(asked)? {
+            Deed::Begin => {
                 self.pending.restart(); // a new page has no shapes yet
                 self.state = State::Filling;
-                Ok(())
             }
-            Ok(Deed::Again(n)) => {
+            Deed::Again(n) => {
                 self.pending.restart(); // the page is filled anew
                 self.state = State::Refilling(n);
-                Ok(())
             }
-            Ok(Deed::Put) => Ok(()),
-            Ok(Deed::Append) => {
-                self.table[closed] = self.pending.record();
-                self.closed = closed + 1;
+            Deed::Put => {}
+            Deed::Append => {
+                self.table[self.closed] = self.pending.record();
+                self.closed += 1;
                 self.state = State::Idle;
-                Ok(())
             }
-            Ok(Deed::Replace(n)) => {
+            Deed::Replace(n) => {
                 self.table[n] = self.pending.record();
                 self.state = State::Idle;
-                Ok(())
             }
-            Ok(Deed::Forget) => {
-                self.state = State::Idle;
-                Ok(())
-            }
-            Err(f) => Err(f),
+            Deed::Forget => self.state = State::Idle,
         }
+        Ok(())
     }
 
     pub fn open(&mut self) -> Result<Slip, Fault>
-        ensures { Step self.old self.new (moves Asked.Open (Ok [])) (λ s. result ≡ given (length s.pages) (verdict (size self.old) s Asked.Open (Ok []))) }
+        ensures { Moved self.old self.new Asked.Open (Ok []) (λ s. given (length s.pages)) result }
     {
         let page = self.closed;
         self.apply(Asked::Open)?;
@@ -100,51 +91,57 @@ impl<'a> Book<'a> {
     }
 
     pub fn retake(&mut self, page: usize) -> Result<Slip, Fault>
-        ensures { Step self.old self.new (moves (Asked.Retake page) (Ok [])) (λ s. result ≡ given page (verdict (size self.old) s (Asked.Retake page) (Ok []))) }
+        ensures { Moved self.old self.new (Asked.Retake page) (Ok []) (λ _. given page) result }
     {
         self.apply(Asked::Retake(page))?;
         Ok(Slip { page })
     }
 
-    pub fn close(&mut self, slip: Slip) -> Result<usize, (Fault, Slip)>
-        ensures { Step self.old self.new (moves (Asked.Close slip.page) (Ok [])) (λ s. result ≡ returned slip.page (verdict (size self.old) s (Asked.Close slip.page) (Ok []))) }
+    // Gives the slip up for what is asked, or gives it back with the refusal.
+    fn spend(&mut self, slip: Slip, asked: Asked) -> Result<usize, (Fault, Slip)>
+        ensures { Moved self.old self.new asked (Ok []) (λ _. returned slip.page) result }
     {
-        let Slip { page } = slip;
-        match self.apply(Asked::Close(page)) {
-            Ok(()) => Ok(page),
-            Err(f) => Err((f, Slip { page })),
+        match self.apply(asked) {
+            Ok(()) => {
+                let Slip { page } = slip;
+                Ok(page)
+            }
+            Err(fault) => Err((fault, slip)),
         }
     }
 
-    pub fn discard(&mut self, slip: Slip) -> Result<usize, (Fault, Slip)>
-        ensures { Step self.old self.new (moves (Asked.Discard slip.page) (Ok [])) (λ s. result ≡ returned slip.page (verdict (size self.old) s (Asked.Discard slip.page) (Ok []))) }
+    pub fn close(&mut self, slip: Slip) -> Result<usize, (Fault, Slip)>
+        ensures { Moved self.old self.new (Asked.Close slip.page) (Ok []) (λ _. returned slip.page) result }
     {
-        let Slip { page } = slip;
-        match self.apply(Asked::Discard(page)) {
-            Ok(()) => Ok(page),
-            Err(f) => Err((f, Slip { page })),
-        }
+        let asked = Asked::Close(slip.page);
+        self.spend(slip, asked)
+    }
+
+    pub fn discard(&mut self, slip: Slip) -> Result<usize, (Fault, Slip)>
+        ensures { Moved self.old self.new (Asked.Discard slip.page) (Ok []) (λ _. returned slip.page) result }
+    {
+        let asked = Asked::Discard(slip.page);
+        self.spend(slip, asked)
     }
 
     // Adds the shape of a source, which is read to its end. Where the slip is refused, the source is not read.
     pub fn add<S: ShapeSource>(&mut self, slip: &Slip, source: &mut S) -> Result<(), Fault>
-        ensures step { Step self.old self.new (moves (Asked.Add slip.now.page) (Ok (S.means source.old ∷ []))) (λ s. result ≡ added (verdict (size self.old) s (Asked.Add slip.now.page) (Ok (S.means source.old ∷ [])))) }
+        ensures step { Moved self.old self.new (Asked.Add slip.now.page) (Ok (S.means source.old ∷ [])) (λ _. added) result }
         ensures source { MatchResult result (λ _. (S.means source.new).coords ≡ []) (λ _. source.new ≡ source.old) }
     {
-        rule(self.state, self.closed, self.room(), Asked::Add(slip.page))?;
+        self.ruled(Asked::Add(slip.page))?;
         self.pending.update_source(source);
         Ok(())
     }
 
     // Adds the shape that the bytes hold. A fault of the bytes is passed on with the page.
     pub fn add_wkb(&mut self, slip: &Slip, bytes: &[u8]) -> Result<(), Fault>
-        ensures { Step self.old self.new (moves (Asked.Add slip.now.page) (brought_by (decode bytes.now))) (λ s. result ≡ added (verdict (size self.old) s (Asked.Add slip.now.page) (brought_by (decode bytes.now)))) }
+        ensures { Moved self.old self.new (Asked.Add slip.now.page) (brought_by (decode bytes.now)) (λ _. added) result }
     {
-        rule(self.state, self.closed, self.room(), Asked::Add(slip.page))?;
-        match self.pending.update_wkb(bytes) {
-            Ok(()) => Ok(()),
-            Err(f) => Err(f.on_page(slip.page)),
-        }
+        self.ruled(Asked::Add(slip.page))?;
+        self.pending
+            .update_wkb(bytes)
+            .map_err(|fault| fault.on_page(slip.page))
     }
 
     pub fn tell(&self, target: Target) -> Result<Answer, Fault>
@@ -158,10 +155,7 @@ impl<'a> Book<'a> {
                 Ok(page.tell(&hint))
             }
             Target::Page(n) => Err(Fault::new(Cause::NoSuchPage, n)),
-            Target::Column => {
-                let all = merged(&self.table[0..self.closed]);
-                Ok(all.tell(&hint))
-            }
+            Target::Column => Ok(merged(&self.table[..self.closed]).tell(&hint)),
         }
     }
 
@@ -175,10 +169,7 @@ impl<'a> Book<'a> {
         ensures skipped { SkippedSoundly self.now (frame_of K.covers window.now) target result }
     {
         let told = self.tell(target)?;
-        match judge(&told, window) {
-            Ok(verdict) => Ok(verdict),
-            Err(f) => Err(placed(f, target)),
-        }
+        judge(&told, window).map_err(|fault| placed(fault, target))
     }
 }
 
@@ -196,9 +187,7 @@ fn placed(fault: Fault, target: Target) -> Fault
 fn merged(records: &[PageRecord]) -> PageRecord
     ensures { kept result ≡ merged_from empty_record (map kept records.now) }
 {
-    let mut all = PageRecord::empty();
-    for page in records {
-        all = all.merge(page);
-    }
-    all
+    records
+        .iter()
+        .fold(PageRecord::empty(), |all, page| all.merge(page))
 }

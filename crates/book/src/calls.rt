@@ -2,78 +2,30 @@
 ghost use Rattle.std.specs.Prelude.{◌≡◌};
 ghost use Rattle.interval.specs.Pairs.{ends};
 ghost use Rattle.book.specs.Keeping.{Step, hint_of, size};
-ghost use Rattle.book.specs.Replay.{Replayed, Replies, called, reply, sifting, telling};
-ghost use Rattle.book.specs.Replied.{slipped, spent};
-ghost use Rattle.book.specs.declared.requests.Reply.TheVariants as Variants;
+ghost use Rattle.book.specs.Replay.{Replayed, Replies, called};
+ghost use Rattle.book.specs.declared.requests.Done.TheVariants as Variants;
 
 use crate::held::Book;
-use crate::requests::{Reply, Request};
-use crate::states::{Slip, Verdict};
-use bounding::{Answer, CountingBounder, PageRecord};
+use crate::requests::{Done, Reply, Request};
+use crate::states::Slip;
+use bounding::{CountingBounder, PageRecord};
 use interval::{Fault, Interval, IntervalTrait};
 use shapes::ShapeSource;
 
-fn slip_reply(r: Result<Slip, Fault>) -> Reply
-    ensures { result ≡ slipped r }
+// The slip that was handed out goes by its page.
+fn opened(slip: Slip) -> Done
+    ensures { result ≡ Variants.Opened slip.page }
 {
-    match r {
-        Ok(slip) => {
-            let Slip { page } = slip;
-            Reply::Opened(page)
-        }
-        Err(f) => Reply::Refused(f),
-    }
+    let Slip { page } = slip;
+    Done::Opened(page)
 }
 
-fn add_reply(r: Result<(), Fault>) -> Reply
-    ensures { result ≡ reply Variants.Added r }
+// The slip that comes back with a refusal is taken apart again.
+fn refused(back: (Fault, Slip)) -> Fault
+    ensures { result ≡ back.0 }
 {
-    match r {
-        Ok(()) => Reply::Added,
-        Err(f) => Reply::Refused(f),
-    }
-}
-
-fn close_reply(r: Result<usize, (Fault, Slip)>) -> Reply
-    ensures { result ≡ spent Variants.Closed r }
-{
-    match r {
-        Ok(page) => Reply::Closed(page),
-        Err((f, slip)) => {
-            let Slip { page: _ } = slip;
-            Reply::Refused(f)
-        }
-    }
-}
-
-fn discard_reply(r: Result<usize, (Fault, Slip)>) -> Reply
-    ensures { result ≡ spent Variants.Discarded r }
-{
-    match r {
-        Ok(page) => Reply::Discarded(page),
-        Err((f, slip)) => {
-            let Slip { page: _ } = slip;
-            Reply::Refused(f)
-        }
-    }
-}
-
-fn told_reply(r: Result<Answer, Fault>) -> Reply
-    ensures { result ≡ telling r }
-{
-    match r {
-        Ok(told) => Reply::Told(told),
-        Err(f) => Reply::Refused(f),
-    }
-}
-
-fn sift_reply(r: Result<Verdict, Fault>) -> Reply
-    ensures { result ≡ sifting r }
-{
-    match r {
-        Ok(verdict) => Reply::Sifted(verdict),
-        Err(f) => Reply::Refused(f),
-    }
+    let (fault, Slip { page: _ }) = back;
+    fault
 }
 
 // One call of the list.
@@ -84,28 +36,34 @@ fn answer<K: IntervalTrait + Drop, S: ShapeSource>(
     ensures { Step book.old book.new (called S.means request.old) (λ s. Replies K.WRAPS K.covers S.means (hint_of book.old) (size book.old) s request.old result) }
 {
     match request {
-        Request::Opening => slip_reply(book.open()),
-        Request::Retaking(n) => slip_reply(book.retake(*n)),
+        Request::Opening => book.open().map(opened),
+        Request::Retaking(n) => book.retake(*n).map(opened),
         Request::Adding(p, source) => {
             let slip = Slip { page: *p };
-            let r = book.add(&slip, source);
+            let added = book.add(&slip, source);
             let Slip { page: _ } = slip;
-            add_reply(r)
+            added.map(|()| Done::Added)
         }
         Request::AddingBytes(p, bytes) => {
             let slip = Slip { page: *p };
-            let r = book.add_wkb(&slip, bytes);
+            let added = book.add_wkb(&slip, bytes);
             let Slip { page: _ } = slip;
-            add_reply(r)
+            added.map(|()| Done::Added)
         }
-        Request::Closing(p) => close_reply(book.close(Slip { page: *p })),
-        Request::Discarding(p) => discard_reply(book.discard(Slip { page: *p })),
-        Request::Telling(target) => told_reply(book.tell(*target)),
-        Request::Sifting(target, window) => sift_reply(book.sift(*target, window)),
+        Request::Closing(p) => book
+            .close(Slip { page: *p })
+            .map(Done::Closed)
+            .map_err(refused),
+        Request::Discarding(p) => book
+            .discard(Slip { page: *p })
+            .map(Done::Discarded)
+            .map_err(refused),
+        Request::Telling(target) => book.tell(*target).map(Done::Told),
+        Request::Sifting(target, window) => book.sift(*target, window).map(Done::Sifted),
     }
 }
 
-// Runs the calls on one new book, as many as there is room for replies, and answers how many those are.
+// Runs the calls on one new book, as many as there is room for replies, and answers how many those are. The other replies stay.
 pub fn replay<K: IntervalTrait + Drop, S: ShapeSource>(
     table: &mut [PageRecord],
     pending: &mut CountingBounder,
@@ -113,14 +71,13 @@ pub fn replay<K: IntervalTrait + Drop, S: ShapeSource>(
     requests: &mut [Request<K, S>],
     replies: &mut [Reply],
 ) -> usize
-    ensures { Replayed K.WRAPS K.covers S.means (ends hint) requests.old replies.new result table.old table.new }
+    ensures { Replayed K.WRAPS K.covers S.means (ends hint) requests.old replies.old replies.new result table.old table.new }
 {
     let n = requests.len().min(replies.len());
     let mut book = Book::new(table, pending, hint);
-    let mut i = 0;
-    while i < n {
-        replies[i] = answer(&mut book, &mut requests[i]);
-        i += 1;
+    // by index: of what a zip of two iter_mut wrote, a proof knows nothing
+    for (i, request) in requests[..n].iter_mut().enumerate() {
+        replies[i] = answer(&mut book, request);
     }
     n
 }

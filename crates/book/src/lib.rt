@@ -13,6 +13,6 @@ mod window;
 pub use calls::replay;
 pub use frame::Window;
 pub use held::Book;
-pub use requests::{Reply, Request};
+pub use requests::{Done, Reply, Request};
 pub use states::{Slip, Target, Verdict};
 pub use window::{Ends, judge};

@@ -19,9 +19,9 @@ pub enum Request<K, S> {
     Sifting(Target, Window<K>),
 }
 
-// What a call of a list answered.
+// What a granted call of a list answered.
 #[derive(Clone, Copy)]
-pub enum Reply {
+pub enum Done {
     // a slip for that page was handed out
     Opened(usize),
     Added,
@@ -29,5 +29,7 @@ pub enum Reply {
     Discarded(usize),
     Told(Answer),
     Sifted(Verdict),
-    Refused(Fault),
 }
+
+// What a call of a list answered, or its refusal.
+pub type Reply = Result<Done, Fault>;

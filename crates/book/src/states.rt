@@ -1,7 +1,7 @@
 // The plain values of a book: its state, its calls and what they ask of it.
 
 // What a book is doing.
-#[derive(Clone, Copy)]
+#[derive(Clone, Copy, PartialEq, Eq, Debug)]
 pub enum State {
     Idle,
     // a new page is open
@@ -11,7 +11,7 @@ pub enum State {
 }
 
 // A call that may change the book. A slip goes by the page that it bears.
-#[derive(Clone, Copy)]
+#[derive(Clone, Copy, PartialEq, Eq, Debug)]
 pub enum Asked {
     Open,
     Retake(usize),
@@ -21,7 +21,7 @@ pub enum Asked {
 }
 
 // What a granted call does.
-#[derive(Clone, Copy)]
+#[derive(Clone, Copy, PartialEq, Eq, Debug)]
 pub enum Deed {
     // opens a new page
     Begin,
@@ -38,7 +38,7 @@ pub enum Deed {
 }
 
 // A page, or all pages together.
-#[derive(Clone, Copy)]
+#[derive(Clone, Copy, PartialEq, Eq, Debug)]
 pub enum Target {
     Page(usize),
     Column,
@@ -49,7 +49,7 @@ pub struct Slip {
     pub(crate) page: usize,
 }
 
-#[derive(Clone, Copy)]
+#[derive(Clone, Copy, PartialEq, Eq, Debug)]
 pub enum Verdict {
     Skip,
     Keep,

@@ -17,10 +17,7 @@ pub type Ends = (f64, f64);
 fn taken(ends: Option<Ends>) -> Result<Option<Interval>, Fault>
     ensures { TakenIf ends result }
 {
-    match ends {
-        Some(pair) => Ok(Some(<Interval as IntervalTrait>::take(pair.0, pair.1)?)),
-        None => Ok(None),
-    }
+    ends.map(|(lo, hi)| Interval::take(lo, hi)).transpose()
 }
 
 impl<K: IntervalTrait + Drop> Window<K> {
@@ -29,7 +26,7 @@ impl<K: IntervalTrait + Drop> Window<K> {
         ensures { Opened K.WRAPS K.covers x y z m result }
     {
         let along_x = K::take(x.0, x.1)?;
-        let along_y = <Interval as IntervalTrait>::take(y.0, y.1)?;
+        let along_y = Interval::take(y.0, y.1)?;
         let along_z = taken(z)?;
         let along_m = taken(m)?;
         Ok(Window {
@@ -45,20 +42,14 @@ impl<K: IntervalTrait + Drop> Window<K> {
 fn shares(told: Option<Interval>, window: &Interval) -> bool
     ensures { SharesIf (optional told) (set window.now) result }
 {
-    match told {
-        Some(bounds) => bounds.intersects_interval(window),
-        None => false,
-    }
+    told.is_some_and(|bounds| bounds.intersects_interval(window))
 }
 
 // The same where the axis is asked for.
 fn shares_asked(told: Option<Interval>, window: Option<Interval>) -> bool
     ensures { AskedIf (optional told) (optional_set window) result }
 {
-    match window {
-        Some(bounds) => shares(told, &bounds),
-        None => true,
-    }
+    window.is_none_or(|bounds| shares(told, &bounds))
 }
 
 // The verdict on what is told of a page or the column, or the refusal of an x pair that the kind cannot take.
@@ -73,9 +64,5 @@ pub fn judge<K: IntervalTrait + Drop>(told: &Answer, window: &Window<K>) -> Resu
         & shares(told.y, &window.y)
         & shares_asked(told.z, window.z)
         & shares_asked(told.m, window.m);
-    if met {
-        Ok(Verdict::Keep)
-    } else {
-        Ok(Verdict::Skip)
-    }
+    Ok(if met { Verdict::Keep } else { Verdict::Skip })
 }

@@ -1,36 +1,28 @@
-use Rattle.std.proofs.Common.{◌≡◌, ◌+◌, List, [], ◌∷◌, map, drop, sym, refl, ap, ◌∙◌}
-use Rattle.std.proofs.lemmas.List.{at_drop_more, at_drop_all}
+use Rattle.std.proofs.Common.{◌≡◌, List, [], ◌∷◌, ◌++◌, map, sym, refl, ap, ◌∙◌, subst, rules}
+use Rattle.std.proofs.lemmas.Fn.{fold_over, slice_gives, fronts}
+use Rattle.std.proofs.lemmas.List.{map_push}
 use Rattle.bounding.specs.Record.{Kept, merge}
 use Rattle.bounding.specs.Laws.{merged_from}
-use Rattle.bounding.specs.Walk.{kept}
+use Rattle.bounding.specs.Walk.{empty_record, kept}
 use Rattle.bounding.specs.declared.records.PageRecord.{PageRecord}
 use Rattle.book.proofs.book.merged.Goals as goal
 
-one_more : (k l : Kept) (ls : List Kept) → merged_from (merge k l) ls ≡ merged_from k (l ∷ ls)
+-- one record more, merged last
+merged-push : (k : Kept) (ls : List Kept) (l : Kept) → merged_from k (ls ++ l ∷ []) ≡ merge (merged_from k ls) l
 unfolding merged_from
-one_more k l ls = refl
+merged-push k [] l = refl
+merged-push k (x ∷ ls) l = merged-push (merge k x) ls l
 
-no_more : (k : Kept) → merged_from k [] ≡ k
+merged-none : (k : Kept) → merged_from k [] ≡ k
 unfolding merged_from
-no_more k = refl
+merged-none k = refl
 
-pub loop-page-init : goal.loop-page-init
-loop-page-init c = ap (λ (k : Kept). merged_from k (map kept c.args.records.now)) c.empty-all.ensures
-
-pub loop-page-preserved : goal.loop-page-preserved
-loop-page-preserved c =
-    let records = c.args.records.now in
-    let i = c.loop-page.page-index in
-    let k = kept c.loop-page.all in
-    let x = c.page-item.result in
-    let rest = drop (i + 1) records in
-    ap (λ (l : Kept). merged_from l (map kept rest)) c.merge-all.ensures.exact
-    ∙ one_more k (kept x) (map kept rest)
-    ∙ ap (λ (y : PageRecord). merged_from k (kept y ∷ map kept rest)) c.page-item.is
-    ∙ sym (at_drop_more (λ (r : List PageRecord). merged_from k (map kept r)) records i x c.loop-page-test.true)
-    ∙ c.loop-page.invariant
+merged-more : (ys : List PageRecord) (a y b : PageRecord) → kept a ≡ merged_from empty_record (map kept ys) → kept b ≡ merge (kept a) (kept y) → kept b ≡ merged_from empty_record (map kept (ys ++ y ∷ []))
+merged-more ys a y b all more = more ∙ ap (λ (k : Kept). merge k (kept y)) all ∙ sym (merged-push empty_record (map kept ys) (kept y)) ∙ ap (merged_from empty_record) (sym (map_push kept ys y))
 
 pub returns : goal.returns
 returns c =
-    let k = kept c.loop-page.all in
-    sym (no_more k) ∙ sym (at_drop_all (λ (r : List PageRecord). merged_from k (map kept r)) _ _ c.loop-page-test.false) ∙ c.loop-page.invariant
+    subst (λ (l : List PageRecord). kept c.fold.result ≡ merged_from empty_record (map kept l)) c.iter.ensures.rest
+    (fold_over fronts (λ y. y.now) _ (λ (ys : List PageRecord) (r : PageRecord). kept r ≡ merged_from empty_record (map kept ys)) _
+    (λ ys a x b f' j k. let more : kept b ≡ merge (kept a) (kept x.now) = search rules in (merged-more ys a x.now b j more, search rules))
+    _ _ _ _ (slice_gives c.iter.result) (c.empty.ensures ∙ sym (merged-none empty_record)) c.fold.ensures.ran)

@@ -5,6 +5,7 @@ use mathlib.Core.List.{Memᴰ}
 use lib.Ieee.{Float, sub, eq, le, lt, is_nan}
 use lib.Ieee.Fits.{and_i, and_l, and_r}
 use lib.Ieee.Bits.{is_true}
+use Rattle.std.specs.Float.{NotNan}
 use Rattle.std.proofs.lemmas.Bool.{cases_Bool, cond_both}
 use Rattle.std.proofs.lemmas.Float.{le_trans, lt_trans, T_from_true, T_from_false}
 use Rattle.number.proofs.Plain.{not_le_of_lt}
@@ -18,7 +19,7 @@ use Rattle.bounding.specs.Runs.{Run, Axis, runs_of, hull, gather, xs, ys, zs, ms
 use Rattle.bounding.specs.Record.{Kept, kept_of, record_of, divide, codes_of, below, above, across, every}
 use Rattle.bounding.specs.Told.{all, ordinary, told_x, shown, told}
 use Rattle.bounding.specs.Laws.{HeldEnds, HeldKept, HasValue, Covers, CoversAll}
-use Rattle.bounding.proofs.Merging.{Number, Plain, Into, nothing-plain, nothing-merged, merged-nothing, nan-merged, merged-plain_right, into_left, into_right, into_trans}
+use Rattle.bounding.proofs.Merging.{Plain, Into, nothing-plain, nothing-merged, merged-nothing, nan-merged, merged-plain_right, into_left, into_right, into_trans}
 use Rattle.bounding.proofs.Gathers.{hull-plain, gather-plain, hull-into}
 
 -- ---- emptiness
@@ -30,7 +31,7 @@ pub upright : (e : Pair) → HeldEnds e → T (le e.lo e.hi) → empty e ≡ fal
 upright e h u = let d = empty-is_down e h in let n = not_le_of_lt e.hi e.lo in grind arith
 
 -- ---- values
-pub hull-value : (f : Axis) (r : Run) → (c : Coord) → Memᴰ c r → Number (f c) → Into (pair (f c) (f c)) (hull f r)
+pub hull-value : (f : Axis) (r : Run) → (c : Coord) → Memᴰ c r → NotNan (f c) → Into (pair (f c) (f c)) (hull f r)
 unfolding hull
 hull-value f [] c m n = elim m [ ]
 hull-value f (d ∷ r) c (Memᴰ.head e) n = rw (← e) (into_left (pair (f c) (f c)) (hull f r) (record { low = n; high = n }))

@@ -1,7 +1,8 @@
 -- Pairs merged: exact laws, for pairs of any floats.
-use Rattle.std.proofs.Common.{◌≡◌, not, T, ap₂, arith}
+use Rattle.std.proofs.Common.{◌≡◌, T, ap₂, arith}
 use lib.Ieee.{Float, le, is_nan}
 use lib.Ieee.Fits.{and_i}
+use Rattle.std.specs.Float.{NotNan}
 use Rattle.std.proofs.lemmas.Bool.{cond_both}
 use Rattle.std.proofs.lemmas.Float.{le_trans, le_refl, le_of_eq, le_left, le_right, eq_flip}
 use Rattle.number.proofs.Plain.{le_total, eq-is_les, least_assoc, most_assoc, least_nan_left, most_nan_left, lowest-le, le-highest, least_highest, most_lowest, highest-least, lowest-most}
@@ -9,13 +10,10 @@ use Rattle.interval.specs.Pairs.{Pair, pair, nothing}
 use Rattle.interval.specs.Ordinary.{merged}
 use Rattle.bounding.specs.Laws.{Alike}
 
-abbrev pub Number : Float → Type 0
-Number x = T (not (is_nan x))
-
 -- both ends are numbers
 pub record Plain (e : Pair) : Type 0 where
-  pub low : Number e.lo
-  pub high : Number e.hi
+  pub low : NotNan e.lo
+  pub high : NotNan e.hi
 
 pub merged-assoc : (a b c : Pair) → merged (merged a b) c ≡ merged a (merged b c)
 merged-assoc a b c = ap₂ pair (least_assoc a.lo b.lo c.lo) (most_assoc a.hi b.hi c.hi)

@@ -1,8 +1,8 @@
 -- What is told of x can be taken by a kind that wraps.
-use Rattle.std.proofs.Common.{◌≡◌, ℕ, Bool, true, false, cond, ◌&&◌, T, List, Some, None, sym, refl, ◌∙◌, inl, inr, true≢false, arith}
+use Rattle.std.proofs.Common.{◌≡◌, ℕ, Bool, true, false, ◌&&◌, T, List, Some, None, sym, refl, ◌∙◌, inl, inr, true≢false, arith}
 use lib.Ieee.{Float, nan, inf, fin, binary64, add, sub, div, eq, le, lt}
 use lib.Ieee.Fits.{and_l, and_r}
-use Rattle.std.proofs.lemmas.Bool.{cond_both}
+use Rattle.std.proofs.lemmas.Bool.{cases_Bool, cond_both}
 use Rattle.std.specs.Float.{float_is_finite}
 use Rattle.number.specs.Values.{Held}
 use Rattle.number.proofs.Arith.{sub-lowest, sub-highest}
@@ -51,12 +51,11 @@ mid-finite (fin t n d) (fin s m e) a b h k = tt
 
 divide-finite : (h : Pair) (a b : Float) → T (lt a (divide h)) → T (lt (divide h) b) → T (float_is_finite (width h))
 unfolding divide middle
-divide-finite h a b = go (too_wide h)
-  where
-    go : (g : Bool) → T (lt a (cond g (inf false) (cond g (add binary64 (half h.lo) (half h.hi)) (add binary64 h.lo (half (width h))))))
-        → T (lt (cond g (inf false) (cond g (add binary64 (half h.lo) (half h.hi)) (add binary64 h.lo (half (width h))))) b) → T (float_is_finite (width h))
-    go true p q = absurd (no_above b q)
-    go false p q = mid-finite h.lo (width h) a b p q
+divide-finite h a b p q =
+    elim (cases_Bool (too_wide h)) [
+      | inl e ↦ absurd (no_above b (rw e at q))
+      | inr e ↦ mid-finite h.lo (width h) a b (rw e at p) (rw e at q)
+    ]
 
 -- a finite width is not infinite turned round
 finite_is_not_highest : (x : Float) → T (float_is_finite x) → eq x (inf false) ≡ false

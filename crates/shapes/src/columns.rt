@@ -89,7 +89,7 @@ impl From<Span> for Interval {
 fn block(a: Span, b: Span, x: [u64; 4], y: [u64; 4]) -> (Span, Span)
     ensures { (spanned result.0 ≡ fold with_bits (spanned a) x) × (spanned result.1 ≡ fold with_bits (spanned b) y) }
 {
-    // Point by point: a test of all x and then of all y, or one by an iterator, takes a tenth more time.
+    // Point by point: a test of all x and then of all y, or one by an iterator, takes up to a tenth more time.
     let [x0, x1, x2, x3] = x;
     let [y0, y1, y2, y3] = y;
     if is_nan(x0)

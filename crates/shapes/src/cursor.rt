@@ -41,7 +41,7 @@ impl<'a> Cursor<'a> {
             return s;
         };
         s.code = code;
-        s.enter(order, code.kind, after);
+        s.enter(order, code.kind, after); // a shape with no coordinate for a fault leaves none to come
         s
     }
 

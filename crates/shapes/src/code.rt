@@ -5,23 +5,25 @@ ghost use Rattle.shapes.specs.Codes as Codes;
 use std::error::Error;
 use std::fmt;
 
+// Each with its number.
 #[derive(Clone, Copy, PartialEq, Eq, Debug)]
 pub enum Kind {
-    Point,
-    Line,
-    Polygon,
-    MultiPoint,
-    MultiLine,
-    MultiPolygon,
-    Collection,
+    Point = 1,
+    Line = 2,
+    Polygon = 3,
+    MultiPoint = 4,
+    MultiLine = 5,
+    MultiPolygon = 6,
+    Collection = 7,
 }
 
+// Each with how many thousands it adds to a code.
 #[derive(Clone, Copy, PartialEq, Eq, Debug)]
 pub enum Dimension {
-    Xy,
-    Xyz,
-    Xym,
-    Xyzm,
+    Xy = 0,
+    Xyz = 1,
+    Xym = 2,
+    Xyzm = 3,
 }
 
 #[derive(Clone, Copy, PartialEq, Eq, Debug)]
@@ -34,20 +36,11 @@ pub struct Code {
 #[derive(Clone, Copy, PartialEq, Eq, Debug)]
 pub struct UnknownCode(pub u32);
 
-// 1 to 7.
 impl From<Kind> for u32 {
     ghost from_gives = { λ kind n. n ≡ Codes.kind_number kind };
 
     fn from(kind: Kind) -> u32 {
-        match kind {
-            Kind::Point => 1,
-            Kind::Line => 2,
-            Kind::Polygon => 3,
-            Kind::MultiPoint => 4,
-            Kind::MultiLine => 5,
-            Kind::MultiPolygon => 6,
-            Kind::Collection => 7,
-        }
+        kind as u32
     }
 }
 
@@ -85,17 +78,11 @@ impl Kind {
     }
 }
 
-// How many thousands it adds to a code: 0 to 3.
 impl From<Dimension> for u32 {
     ghost from_gives = { λ dim n. n ≡ Codes.dim_number dim };
 
     fn from(dim: Dimension) -> u32 {
-        match dim {
-            Dimension::Xy => 0,
-            Dimension::Xyz => 1,
-            Dimension::Xym => 2,
-            Dimension::Xyzm => 3,
-        }
+        dim as u32
     }
 }
 

@@ -101,10 +101,10 @@ impl GeometryBounder {
 impl CountingBounder {
     // Adds the shape of a source, which is read to its end.
     pub fn update_source<S: ShapeSource>(&mut self, source: &mut S)
-        ensures adds { Adds (ends self.old.hint) (kept self.old.kept) (S.ShapeSource.means source.old) (kept self.new.kept) }
+        ensures adds { Adds (ends self.old.hint) (kept self.old.kept) (S.means source.old) (kept self.new.kept) }
         ensures hint { self.new.hint ≡ self.old.hint }
-        ensures drained { (S.ShapeSource.means source.new).coords ≡ [] }
-        ensures held { HeldCoords (S.ShapeSource.means source.old).coords }
+        ensures drained { (S.means source.new).coords ≡ [] }
+        ensures held { HeldCoords (S.means source.old).coords }
     {
         let code = source.code();
         let middle = divide(&self.hint);

@@ -94,7 +94,7 @@ fn of_table(heap: Global, code: u32, coords: &[Coord]) -> Result<Answer, AllocEr
 
 // All that a source gives.
 fn gather<S: ShapeSource>(heap: Global, source: &mut S) -> Result<Shape, AllocError>
-    ensures { IfOk result (λ s. (s.code ≡ (S.ShapeSource.means source.old).code) × (s.coords.items ≡ (S.ShapeSource.means source.old).coords)) }
+    ensures { IfOk result (λ s. (s.code ≡ (S.means source.old).code) × (s.coords.items ≡ (S.means source.old).coords)) }
 {
     let code = source.code();
     let mut coords = Vec::new(heap);

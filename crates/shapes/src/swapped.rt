@@ -12,9 +12,9 @@ pub struct Swapped<S> {
 }
 
 impl<S: ShapeSource> ShapeSource for Swapped<S> {
-    ghost means = { λ s. exchanged (S.ShapeSource.means s.inner) };
+    ghost means = { λ s. exchanged (S.means s.inner) };
 
-    ghost room = { λ s. S.ShapeSource.room s.inner };
+    ghost room = { λ s. S.room s.inner };
 
     #[tactic(auto, using(crate::proofs::Sources::lacking))]
     fn next(&mut self) -> Option<Coord> {

@@ -19,7 +19,7 @@ mod tests {
 
     fn refused_with(rt: &impl Abort, bytes: &[u8], number: u8, place: usize) -> Result<(), Fail> {
         let fault = check(bytes).err().ok_or("read")?;
-        assert_eq!(rt; fault.cause.number(), number);
+        assert_eq!(rt; u8::from(fault.cause), number);
         assert_eq!(rt; fault.place, place);
         Ok(())
     }
@@ -60,7 +60,7 @@ mod tests {
             joins: true,
         }];
         let fault = Table::new(8, &coords).err().ok_or("8 is no code")?;
-        assert_eq!(rt; fault.cause.number(), 13);
+        assert_eq!(rt; u8::from(fault.cause), 13);
         assert_eq!(rt; fault.place, 0);
         let mut swapped = Swapped {
             inner: Table::new(2001, &coords)?,

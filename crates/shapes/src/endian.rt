@@ -26,6 +26,7 @@ impl TryFrom<u8> for Endian {
     }
 }
 
+// One function for each number type, since each has byte-order methods of its own.
 impl Endian {
     // A count or a code.
     pub(crate) fn read_u32(self, b: [u8; 4]) -> u32

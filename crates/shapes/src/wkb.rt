@@ -39,7 +39,7 @@ fn check_polygon(bytes: &[u8], order: Endian, dim: Dimension) -> Result<&[u8], S
     Ok(rest)
 }
 
-// What follows a whole shape that stands in this container, with so many levels left.
+// What follows a whole shape that stands in this container, with so many levels left. It calls itself and is not generic, so that the levels fall with each call.
 fn check_shape(bytes: &[u8], levels: u32, outer: Option<Code>) -> Result<&[u8], Stop>
     ensures { Follows (shape levels outer) bytes.now result }
 {

@@ -126,8 +126,8 @@ impl<'a> Book<'a> {
 
     // Adds the shape of a source, which is read to its end. Where the slip is refused, the source is not read.
     pub fn add<S: ShapeSource>(&mut self, slip: &Slip, source: &mut S) -> Result<(), Fault>
-        ensures step { Moved self.old self.new (Asked.Add slip.now.page) (Ok (S.ShapeSource.means source.old ∷ [])) (λ _. added) result }
-        ensures source { MatchResult result (λ _. (S.ShapeSource.means source.new).coords ≡ []) (λ _. source.new ≡ source.old) }
+        ensures step { Moved self.old self.new (Asked.Add slip.now.page) (Ok (S.means source.old ∷ [])) (λ _. added) result }
+        ensures source { MatchResult result (λ _. (S.means source.new).coords ≡ []) (λ _. source.new ≡ source.old) }
     {
         self.ruled(Asked::Add(slip.page))?;
         self.pending.update_source(source);
@@ -165,8 +165,8 @@ impl<'a> Book<'a> {
         target: Target,
         window: &Window<K>,
     ) -> Result<Verdict, Fault>
-        ensures step { Step self.now self.now asks (λ s. Sifted K.IntervalTrait.wrapping (frame_of K.IntervalTrait.covers window.now) target (tells (hint_of self.now) s target) result) }
-        ensures skipped { SkippedSoundly self.now (frame_of K.IntervalTrait.covers window.now) target result }
+        ensures step { Step self.now self.now asks (λ s. Sifted K.WRAPS (frame_of K.covers window.now) target (tells (hint_of self.now) s target) result) }
+        ensures skipped { SkippedSoundly self.now (frame_of K.covers window.now) target result }
     {
         let told = self.tell(target)?;
         judge(&told, window).map_err(|fault| placed(fault, target))

@@ -33,7 +33,7 @@ fn answer<K: IntervalTrait + Drop, S: ShapeSource>(
     book: &mut Book,
     request: &mut Request<K, S>,
 ) -> Reply
-    ensures { Step book.old book.new (called S.ShapeSource.means request.old) (λ s. Replies K.IntervalTrait.wrapping K.IntervalTrait.covers S.ShapeSource.means (hint_of book.old) (size book.old) s request.old result) }
+    ensures { Step book.old book.new (called S.means request.old) (λ s. Replies K.WRAPS K.covers S.means (hint_of book.old) (size book.old) s request.old result) }
 {
     match request {
         Request::Opening => book.open().map(opened),
@@ -71,7 +71,7 @@ pub fn replay<K: IntervalTrait + Drop, S: ShapeSource>(
     requests: &mut [Request<K, S>],
     replies: &mut [Reply],
 ) -> usize
-    ensures { Replayed K.IntervalTrait.wrapping K.IntervalTrait.covers S.ShapeSource.means (ends hint) requests.old replies.old replies.new result table.old table.new }
+    ensures { Replayed K.WRAPS K.covers S.means (ends hint) requests.old replies.old replies.new result table.old table.new }
 {
     let n = requests.len().min(replies.len());
     let mut book = Book::new(table, pending, hint);

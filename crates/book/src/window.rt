@@ -23,7 +23,7 @@ fn taken(ends: Option<Ends>) -> Result<Option<Interval>, Fault>
 impl<K: IntervalTrait + Drop> Window<K> {
     // A window from stored pairs, or the first refusal of one, in the order x, y, z, m.
     pub fn new(x: Ends, y: Ends, z: Option<Ends>, m: Option<Ends>) -> Result<Window<K>, Fault>
-        ensures { Opened K.IntervalTrait.wrapping K.IntervalTrait.covers x y z m result }
+        ensures { Opened K.WRAPS K.covers x y z m result }
     {
         let along_x = K::take(x.0, x.1)?;
         let along_y = Interval::take(y.0, y.1)?;
@@ -54,7 +54,7 @@ fn shares_asked(told: Option<Interval>, window: Option<Interval>) -> bool
 
 // The verdict on what is told of a page or the column, or the refusal of an x pair that the kind cannot take.
 pub fn judge<K: IntervalTrait + Drop>(told: &Answer, window: &Window<K>) -> Result<Verdict, Fault>
-    ensures { Upright (answer told.now) → TestedX K.IntervalTrait.wrapping (frame_of K.IntervalTrait.covers window.now) Column (answer told.now) (answer told.now).x result }
+    ensures { Upright (answer told.now) → TestedX K.WRAPS (frame_of K.covers window.now) Column (answer told.now) (answer told.now).x result }
 {
     let Some(x) = told.x else {
         return Ok(Verdict::Skip);

@@ -6,6 +6,6 @@ use Rattle.book.proofs.calls.replay.Given as goal
 abbrev pub invariant-loop-i : goal.invariant-loop-i
 invariant-loop-i g l =
     record {
-      played : Played g.K.IntervalTrait.wrapping g.K.IntervalTrait.covers g.S.ShapeSource.means l.initial.book l.fn.requests l.initial.replies l.replies l.i l.book;
+      played : Played g.K.IntervalTrait.WRAPS g.K.IntervalTrait.covers g.S.ShapeSource.means l.initial.book l.fn.requests l.initial.replies l.replies l.i l.book;
       rest : drop l.i l.request-items ≡ drop l.i (take l.n l.fn.requests);
     }

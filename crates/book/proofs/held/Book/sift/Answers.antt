@@ -23,7 +23,7 @@ returns q c =
     let g = c.args.target in
     let t = answer c.in_ok-told.told in
     let w = frame_of q.K.IntervalTrait.covers c.args.window.now in
-    let wrapping = q.K.IntervalTrait.wrapping in
+    let wrapping = q.K.IntervalTrait.WRAPS in
     let is : c.map_err.result ≡ placed-in g c.judge.result = search rules in
     let step =
     reworded c.in_ok-told.ensures.step

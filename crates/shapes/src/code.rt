@@ -131,10 +131,9 @@ impl TryFrom<u32> for Code {
     ghost try_from_gives = { λ n r. Codes.Reads (Codes.code_of n) n r };
 
     fn try_from(n: u32) -> Result<Code, UnknownCode> {
-        match (Kind::try_from(n % 1000), Dimension::try_from(n / 1000)) {
-            (Ok(kind), Ok(dim)) => Ok(Code { kind, dim }),
-            _ => Err(UnknownCode(n)),
-        }
+        let kind = Kind::try_from(n % 1000).map_err(|_| UnknownCode(n))?;
+        let dim = Dimension::try_from(n / 1000).map_err(|_| UnknownCode(n))?;
+        Ok(Code { kind, dim })
     }
 }
 

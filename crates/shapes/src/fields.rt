@@ -1,5 +1,5 @@
 // The fields of a shape: its header, a count, its ordinates.
-ghost use Rattle.std.specs.Prelude.{◌≡◌, ◌+◌, ◌*◌, ◌%◌, ◌^◌, ◌<◌, ◌≤◌, true, length, drop, MatchResult};
+ghost use Rattle.std.specs.Prelude.{Option, ◌≡◌, ◌+◌, ◌*◌, ◌%◌, ◌^◌, ◌<◌, ◌≤◌, true, length, drop, MatchResult};
 ghost use Rattle.interval.specs.declared.fault.Cause.TheVariants.{Truncated};
 ghost use Rattle.shapes.specs.Codes.{fits, width};
 ghost use Rattle.shapes.specs.Numbers.{u32_at, f64_at, coord_at};
@@ -32,29 +32,38 @@ pub(crate) fn skip_eights(bytes: &[u8], n: usize) -> Result<&[u8], Stop>
     })
 }
 
-// The byte order and the code of a shape that stands in this container, and what follows them.
+// Where a header stops that is not there whole.
+fn cut_header(bytes: &[u8]) -> Stop
+    requires { length bytes.now < 5 }
+    ensures { (outer : Option Code) → Unheaded outer bytes.now result }
+{
+    match bytes {
+        [first, cut @ ..] => match Endian::try_from(*first) {
+            Ok(_) => Stop::before(Cause::Truncated, cut),
+            Err(cause) => Stop::before(cause, bytes),
+        },
+        [] => Stop::before(Cause::Truncated, bytes),
+    }
+}
+
+// The byte order and the code of a shape that stands in this container, and what follows them. A call of it for each part would take as long as the part's check.
+#[inline(always)]
 pub(crate) fn header(bytes: &[u8], outer: Option<Code>) -> Result<(Endian, Code, &[u8]), Stop>
     ensures { MatchResult result (λ p. (length p.2.now + 5 ≤ length bytes.now) × Headed outer bytes.now p.0 p.1 p.2.now × (p.1 ≡ code_at bytes.now) × (fits outer p.1 ≡ true)) (λ s. Unheaded outer bytes.now s) }
 {
-    match bytes {
-        [first, a, b, c, d, rest @ ..] => {
-            let order = Endian::try_from(*first).map_err(|cause| Stop::before(cause, bytes))?;
-            let numbered = &bytes[1..];
-            let number = order.read_u32([*a, *b, *c, *d]);
-            let Ok(code) = Code::try_from(number) else {
-                return Err(Stop::before(Cause::TypeCode, numbered));
-            };
-            if !code.fits_in(outer) {
-                return Err(Stop::before(Cause::PartType, numbered));
-            }
-            Ok((order, code, rest))
-        }
-        [first, cut @ ..] => {
-            Endian::try_from(*first).map_err(|cause| Stop::before(cause, bytes))?;
-            Err(Stop::before(Cause::Truncated, cut))
-        }
-        [] => Err(Stop::before(Cause::Truncated, bytes)),
+    let [first, a, b, c, d, rest @ ..] = bytes else {
+        return Err(cut_header(bytes));
+    };
+    let Ok(order) = Endian::try_from(*first) else {
+        return Err(Stop::before(Cause::ByteOrder, bytes));
+    };
+    let Ok(code) = Code::try_from(order.read_u32([*a, *b, *c, *d])) else {
+        return Err(Stop::before(Cause::TypeCode, &bytes[1..]));
+    };
+    if !code.fits_in(outer) {
+        return Err(Stop::before(Cause::PartType, &bytes[1..]));
     }
+    Ok((order, code, rest))
 }
 
 // The eight bytes at the start as a float.

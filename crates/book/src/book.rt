@@ -97,7 +97,8 @@ impl<'a> Book<'a> {
         Ok(Slip { page })
     }
 
-    // Gives the slip up for what is asked, or gives it back with the refusal.
+    // Gives the slip up for what is asked, or gives it back with the refusal: all that the calls `close` and `discard` share.
+    // A match, since a slip goes one way or the other, and no closure can hold it for both.
     fn spend(&mut self, slip: Slip, asked: Asked) -> Result<usize, (Fault, Slip)>
         ensures { Moved self.old self.new asked (Ok []) (λ _. returned slip.page) result }
     {

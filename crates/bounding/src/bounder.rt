@@ -39,7 +39,7 @@ pub struct GeometryBounder {
     pub(crate) hint: Interval,
 }
 
-// A bounder to which shapes are added. Its hint is settled.
+// A bounder to which shapes are added. Its hint is settled: each call says that it stays, since that is no fact of one state.
 #[derive(Drop)]
 pub struct CountingBounder {
     pub(crate) kept: PageRecord,
@@ -63,7 +63,7 @@ impl GeometryBounder {
         ensures { ends result.hint ≡ nothing }
     {
         GeometryBounder {
-            hint: <Interval as IntervalTrait>::empty(),
+            hint: Interval::empty(),
         }
     }
 

@@ -53,7 +53,7 @@ impl PageRecord {
     pub fn empty() -> PageRecord
         ensures { kept result ≡ Walk.empty_record }
     {
-        let none = <Interval as IntervalTrait>::empty();
+        let none = Interval::empty();
         PageRecord {
             x_left: none,
             x_mid: none,

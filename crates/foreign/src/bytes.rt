@@ -21,7 +21,7 @@ fn checked(bytes: &[u8]) -> Result<(), Refusal>
     Ok(())
 }
 
-// The record of the shape that the bytes hold.
+// The record of the shape that the bytes hold. Bytes and hint come apart from C, and a struct of both would be taken apart at once.
 fn recorded(bytes: &[u8], hint: Interval) -> Result<PageRecord, Refusal>
     ensures { MatchResult result (λ p. (byte_refusal (decode bytes.now) ≡ None) × (kept p ≡ record_of (ends hint) (shapes_in (decode bytes.now)))) (λ e. byte_refusal (decode bytes.now) ≡ Some e) }
 {

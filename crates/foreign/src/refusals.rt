@@ -67,7 +67,7 @@ impl From<Fault> for RawFault {
     }
 }
 
-// The status of an answer, 0 where it was granted. The fault is written where the library refused, and else left.
+// The status of an answer, a number for C: 0 where it was granted. The fault is written where the library refused, and else left.
 pub(crate) fn status(answer: Result<(), Refusal>, fault: &mut RawFault) -> i32
     ensures { Answers (refusal_of answer) fault.old result fault.new }
 {

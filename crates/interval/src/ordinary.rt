@@ -75,7 +75,7 @@ impl Interval {
         self.hi = most(self.hi, value);
     }
 
-    // Equal bounds: end by end as numbers, or both NaN.
+    // Equal bounds: end by end as numbers, or both NaN. It has a name, since a derived `==` says no where an end is NaN.
     pub fn same(&self, other: &Self) -> bool
         ensures { result ≡ Pairs.same (ends self.now) (ends other.now) }
     {

@@ -32,14 +32,14 @@ use crate::kinds::{Interval, WraparoundInterval};
 use crate::ordinary::{least, most};
 
 impl WraparoundInterval {
-    // Equal bounds: end by end as numbers, or both NaN.
+    // Equal bounds: end by end as numbers, or both NaN. It has a name, since a derived `==` says no where an end is NaN.
     pub fn same(&self, other: &Self) -> bool
         ensures { result ≡ Pairs.same (inner_ends self.now) (inner_ends other.now) }
     {
         self.inner.same(&other.inner)
     }
 
-    // The same bounds as an `Interval`, or the refusal of a pair that wraps.
+    // The same bounds as an `Interval`, or the refusal of a pair that wraps. It has a name, which `TryFrom` would hide.
     pub fn to_ordinary(&self) -> Result<Interval, Fault>
         ensures { result ≡ Wraparound.unwrapped self.now }
     {
@@ -66,7 +66,7 @@ impl WraparoundInterval {
                 },
             )
         } else {
-            (self.inner, <Interval as IntervalTrait>::empty())
+            (self.inner, Interval::empty())
         }
     }
 }
@@ -76,9 +76,9 @@ fn closed(lo: f64, hi: f64) -> WraparoundInterval
     ensures { inner_ends result ≡ Wraparound.closed (pair lo hi) }
 {
     if lo <= hi {
-        <WraparoundInterval as IntervalTrait>::full()
+        WraparoundInterval::full()
     } else {
-        <WraparoundInterval as IntervalTrait>::new(lo, hi)
+        WraparoundInterval::new(lo, hi)
     }
 }
 
@@ -167,7 +167,7 @@ impl IntervalTrait for WraparoundInterval {
         ensures exact { inner_ends result ≡ nothing }
     {
         WraparoundInterval {
-            inner: <Interval as IntervalTrait>::empty(),
+            inner: Interval::empty(),
         }
     }
 
@@ -176,7 +176,7 @@ impl IntervalTrait for WraparoundInterval {
         ensures exact { inner_ends result ≡ everything }
     {
         WraparoundInterval {
-            inner: <Interval as IntervalTrait>::full(),
+            inner: Interval::full(),
         }
     }
 

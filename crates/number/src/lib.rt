@@ -5,7 +5,7 @@ ghost use Rattle.std.specs.Prelude.{◌≡◌};
 ghost use Rattle.number.specs.Laws.{Alike, Largest, Lowest, Ordered, Rounded, Smallest};
 ghost use Rattle.number.specs.Values as Values;
 
-// Equal as numbers, so that both zeros are one, or both NaN.
+// Equal as numbers, so that both zeros are one, or both NaN. It has a name, since `==` of floats says no of two NaN.
 pub fn same(x: f64, y: f64) -> bool
     ensures { result ≡ Values.same x y }
 {

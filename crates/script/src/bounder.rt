@@ -30,9 +30,7 @@ fn started(hint: Option<Pair>) -> CountingBounder
 {
     let fresh = GeometryBounder::empty();
     match hint {
-        Some(Pair { lo, hi }) => fresh
-            .with_wraparound_hint(<Interval as IntervalTrait>::new(lo, hi))
-            .start(),
+        Some(Pair { lo, hi }) => fresh.with_wraparound_hint(Interval::new(lo, hi)).start(),
         None => fresh.start(),
     }
 }

@@ -14,7 +14,7 @@ use crate::hulls::Hulls;
 use crate::span::Span;
 use interval::Interval;
 
-// The bits of the ordinate that stands there in a point.
+// The bits of the ordinate that stands there in a point. Place and order stay two parameters: a struct of both would be taken apart here alone.
 fn bits_at(point: &[u8], at: usize, order: Endian) -> u64
     requires { at + 8 ≤ length point.now }
     ensures { result ≡ u64_at order (drop at point.now) }

@@ -20,7 +20,7 @@ impl Hulls {
     pub fn empty() -> Hulls
         ensures { four result ≡ Of.none }
     {
-        let none = <Interval as IntervalTrait>::empty();
+        let none = Interval::empty();
         Hulls {
             x: none,
             y: none,

@@ -26,10 +26,10 @@ pub fn read_bytes(heap: Global, word: &str) -> Result<Option<Vec<u8>>, AllocErro
         return Ok(None);
     }
     for [high, low] in pairs {
-        match byte(*high, *low) {
-            Some(b) => found.push(b)?,
-            None => return Ok(None),
-        }
+        let Some(b) = byte(*high, *low) else {
+            return Ok(None);
+        };
+        found.push(b)?;
     }
     Ok(Some(found))
 }

@@ -2,18 +2,18 @@ use Rattle.std.proofs.Common.{◌≡◌, ◌+◌, ◌/◌, ◌%◌, ◌<◌, ℕ
 use Rattle.words.proofs.Pairs.{Front, Pairs, front_more, hex_from_pairs, no_bytes}
 use Rattle.words.proofs.bytes.read_bytes.Goals as goal
 
-pub returns-in-None : goal.returns-in-None
-returns-in-None c =
+pub returns-in_default : goal.returns-in_default
+returns-in_default c =
     let w = c.args.word.now in
     let plain : w ≡ codes "-" → ⊥ = search rules in
     let short : c.loop-high.high-index < length w / 2 = search rules in
     let pairs : Pairs w c.as_chunks.result.0.now = cc in
-    no_bytes w _ pairs c.loop-high.high-index plain short c.in-None.ensures
+    no_bytes w _ pairs c.loop-high.high-index plain short c.in_default.ensures
 
 pub loop-high-preserved : goal.loop-high-preserved
 loop-high-preserved c =
     let ps = c.as_chunks.result.0.now in
-    subst (Front ps (c.loop-high.high-index + 1)) (sym c.in_ok-push-in-Some.ensures.items)
+    subst (Front ps (c.loop-high.high-index + 1)) (sym c.in_ok-push.ensures.items)
     (front_more ps c.loop-high.high-index c.loop-high.found.items c.in-Some.b c.loop-high.invariant c.in-Some.ensures)
 
 pub returns : goal.returns

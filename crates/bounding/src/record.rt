@@ -17,7 +17,7 @@
 
 // Changed: ported to Rattle from src/bounding.rs of parquet-geospatial 60.0.0. What `GeometryBounder` keeps is a plain record, merged
 // with another bound by bound. Where just one half of the map has values, x is the ordinary pair.
-ghost use Rattle.std.specs.Prelude.{◌≡◌, [], if◌then◌else◌, Some, None};
+ghost use Rattle.std.specs.Prelude.{◌≡◌, if◌then◌else◌, Some, None};
 ghost use Rattle.interval.specs.Ordinary.{merged};
 ghost use Rattle.interval.specs.Pairs.{empty, ends, inner_ends};
 ghost use Rattle.bounding.specs.Laws.{Tells, Together};

@@ -20,7 +20,7 @@
 
 use interval::{Interval, WraparoundInterval};
 
-// A set of type codes, a bit for each of the 28.
+// A set of type codes, a bit for each of the 28: by a rule of this library a page's record is plain numbers.
 #[derive(Clone, Copy, PartialEq, Eq, Debug)]
 pub struct CodeSet {
     pub bits: u32,

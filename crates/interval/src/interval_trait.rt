@@ -33,6 +33,7 @@ pub trait IntervalTrait: Sized {
     // The values that are covered, as a test.
     ghost covers: { Self → Float → Bool };
 
+    // A kind is made of two numbers here and in `take`: no pair is bounds before.
     fn new(lo: f64, hi: f64) -> Self
         ensures { Spans lo hi (covers result) };
 

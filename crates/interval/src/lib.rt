@@ -7,6 +7,6 @@ mod kinds;
 mod ordinary;
 mod wraparound;
 
-pub use fault::{Cause, Fault};
+pub use fault::{Cause, Fault, Layer};
 pub use interval_trait::IntervalTrait;
 pub use kinds::{Interval, WraparoundInterval};

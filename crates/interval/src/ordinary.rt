@@ -83,24 +83,15 @@ impl Interval {
     }
 }
 
-impl From<(f64, f64)> for Interval {
-    ghost from_gives = { λ p r. ends r ≡ pair p.0 p.1 };
+// From two floats, or from two numbers of a type that a float holds, as i32.
+impl<T: Into<f64>> From<(T, T)> for Interval {
+    ghost from_gives = { λ p r. T.converts p.0 r.lo × T.converts p.1 r.hi };
 
-    fn from(value: (f64, f64)) -> Self {
+    fn from(value: (T, T)) -> Self {
+        let (lo, hi) = value;
         Interval {
-            lo: value.0,
-            hi: value.1,
-        }
-    }
-}
-
-impl From<(i32, i32)> for Interval {
-    ghost from_gives = { λ p r. ends r ≡ pair (of_int binary64 p.0) (of_int binary64 p.1) };
-
-    fn from(value: (i32, i32)) -> Self {
-        Interval {
-            lo: value.0 as f64,
-            hi: value.1 as f64,
+            lo: lo.into(),
+            hi: hi.into(),
         }
     }
 }

@@ -18,7 +18,7 @@
 // Changed: ported to Rattle from src/interval.rs of parquet-geospatial 60.0.0. `contains_interval` also answers yes on the upper side and
 // for the full interval, and `merge_interval` widens the one side that is met; `take`, `same`, `to_ordinary` (which was `TryFrom`) and
 // the contracts are added; `least` and `most` stand for `f64::min` and `f64::max`.
-ghost use Rattle.std.specs.Prelude.{◌≡◌, true, false, cond, IfOk};
+ghost use Rattle.std.specs.Prelude.{◌≡◌, true, IfOk};
 ghost use Rattle.std.specs.Float.{binary64};
 ghost use Rattle.std.specs.Float.Ieee.{of_int};
 ghost use Rattle.interval.specs.Laws.{Adds, Contains, Everything, Expands, Meets, Merges, Nothing, Spans, Taken};
@@ -39,7 +39,7 @@ impl WraparoundInterval {
         self.inner.same(&other.inner)
     }
 
-    // The same bounds as an `Interval`, or the refusal of a pair that wraps. It has a name, which `TryFrom` would hide.
+    // The same bounds as an `Interval`, or the refusal of a pair that wraps. A rule of this library gives it a name, as it may refuse.
     pub fn to_ordinary(&self) -> Result<Interval, Fault>
         ensures { result ≡ Wraparound.unwrapped self.now }
     {
@@ -107,20 +107,10 @@ fn widened(wrapping: &Interval, other: &Interval) -> WraparoundInterval
     }
 }
 
-impl From<(f64, f64)> for WraparoundInterval {
-    ghost from_gives = { λ p r. inner_ends r ≡ pair p.0 p.1 };
+impl<T: Into<f64>> From<(T, T)> for WraparoundInterval {
+    ghost from_gives = { λ p r. T.converts p.0 r.inner.lo × T.converts p.1 r.inner.hi };
 
-    fn from(value: (f64, f64)) -> Self {
-        WraparoundInterval {
-            inner: Interval::from(value),
-        }
-    }
-}
-
-impl From<(i32, i32)> for WraparoundInterval {
-    ghost from_gives = { λ p r. inner_ends r ≡ pair (of_int binary64 p.0) (of_int binary64 p.1) };
-
-    fn from(value: (i32, i32)) -> Self {
+    fn from(value: (T, T)) -> Self {
         WraparoundInterval {
             inner: Interval::from(value),
         }

@@ -74,7 +74,7 @@ fn made<'a, K: IntervalTrait>(words: &mut Words<'a>) -> Result<K, Wrong<'a>> {
     Ok(K::new(lo, hi))
 }
 
-// What is asked is parsed first, so that `words` proves what each word names; a table of closures would take that in.
+// A match on what was asked: crate `words` proves what each word names, which a table from words to closures would leave unproved.
 fn of_pair<K: Bounds>(asked: OnePair, bounds: K) -> Answer {
     match asked {
         OnePair::New => ends(bounds),

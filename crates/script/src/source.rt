@@ -1,4 +1,4 @@
-// A source over what a script gives.
+// A source over what a script gives: an enum, since a `dyn` that a function makes and hands out is refused by the gate.
 ghost use Rattle.script.specs.Sources.{means, room};
 
 use shapes::{Code, Coord, Cursor, ShapeSource, Swapped, Table};

@@ -1,6 +1,5 @@
 // Bytes as a script writes them: two hexadecimal digits each, or `-` for no bytes at all.
 ghost use Rattle.std.specs.Prelude.{ℕ, IfOk, vec_items, MatchOption};
-ghost use Rattle.std.specs.Option.{SomeIff};
 ghost use Rattle.words.specs.Bytes.{ReadsBytes, TwoDigits};
 
 use std::alloc::{AllocError, Global};

@@ -1,5 +1,6 @@
 -- One call, from what the rule said of it.
-use Rattle.std.proofs.Common.{◌≡◌, ℕ, zero, suc, ◌+◌, ◌<◌, ◌≤◌, List, [], ◌∷◌, ◌++◌, map, length, get_or, take, set, Ok, Err, Result, sym, refl, ap, ◌∙◌, subst, ap₂, ◌⊎◌, inl, inr, IsErrAnd, MatchResult, append-nil, arith, length-take}
+use Rattle.std.proofs.Common.{◌≡◌, ℕ, zero, suc, ◌+◌, ◌<◌, ◌≤◌, List, [], ◌∷◌, ◌++◌, map, length, get_or, take, set, Ok, Err, Result, sym, refl, ap, ◌∙◌, subst, ap₂, ◌⊎◌, inl, inr, IsErrAnd, MatchResult, append-nil, arith, length-take, Bor, Option, Some, None, IsSomeAnd, MatchOption, ok_or}
+use Rattle.std.specs.Slice.{IsItemAt}
 use mathlib.Core.List.Memᴰ
 use mathlib.Core.List.{Memᴰ}
 use lib.Seq.{map-set, take-set-lt}
@@ -11,11 +12,12 @@ use Rattle.interval.specs.declared.fault.Cause.TheVariants.{NoSuchPage}
 use Rattle.interval.specs.Faults.{at}
 use Rattle.interval.specs.Pairs.{Pair}
 use Rattle.shapes.specs.Source.{Shape}
+use Rattle.bounding.specs.declared.records.Answer.{Answer}
 use Rattle.bounding.specs.declared.records.PageRecord.{PageRecord}
 use Rattle.bounding.specs.Record.{Kept, record_of}
 use Rattle.bounding.specs.Told.{Told, told}
 use Rattle.bounding.specs.Laws.{HeldShapes, HeldCoords, together, merged_from}
-use Rattle.bounding.specs.Walk.{kept, Adds, empty_record}
+use Rattle.bounding.specs.Walk.{answer, kept, Adds, empty_record}
 use Rattle.bounding.proofs.Walks.{no_shapes}
 use Rattle.book.specs.declared.held.Book.{Book}
 use Rattle.book.specs.declared.states.Asked.{Asked}
@@ -28,7 +30,7 @@ use Rattle.book.specs.declared.states.Target.TheVariants.{Page, Column}
 use Rattle.book.specs.Promises.{tells, record_at}
 use Rattle.book.specs.Room.{usable}
 use Rattle.book.specs.Standing.{Standing, Call, Brought, moves, asks, standing, start, run, step, after, done, ruling, outcome, verdict}
-use Rattle.book.specs.Answers.{added}
+use Rattle.book.specs.Answers.{added, told_by}
 use Rattle.book.specs.Keeping.{Pending, Keeps, KeptBy, Moved, Replaced, Step, ToldTruly, Written, WrittenBy, size, hint_of}
 use Rattle.book.proofs.Promised.{skips-soundly, tells-truly}
 
@@ -224,13 +226,26 @@ module _ {hint : Pair} {s : Standing} {table : List PageRecord} {pending : PageR
       let below : n < length s.pages = rw k.count at lt in
       ap kept (sym (get_or-take closed table n d lt)) ∙ sym (get_or-map kept (take closed table) n d (kept d) inside) ∙ ap (λ (l : List Kept). get_or l n (kept d)) k.records ∙ get_or-map (record_of hint) s.pages n [] (kept d) below
 
-  pub told-page : (n : ℕ) (d : PageRecord) → n < closed → closed ≤ length table → Ok (told hint (kept (get_or table n d))) ≡ tells hint s (Page n)
+  told-page : (n : ℕ) (d : PageRecord) → n < closed → closed ≤ length table → Ok (told hint (kept (get_or table n d))) ≡ tells hint s (Page n)
   told-page n d lt within =
       let below : n < length s.pages = rw k.count at lt in
       ap {B = Result Told Fault} (λ (q : Kept). Ok (told hint q)) (page_record n d lt within) ∙ cond_below n (length s.pages) _ _ below
 
-  pub told_none : (n : ℕ) → closed ≤ n → Err (at NoSuchPage n) ≡ tells hint s (Page n)
+  told_none : (n : ℕ) → closed ≤ n → Err (at NoSuchPage n) ≡ tells hint s (Page n)
   told_none n le = let past : length s.pages ≤ n = rw k.count at le in cond_above n (length s.pages) _ _ _ past refl
+
+  -- what the closed pages have at n, told, or the refusal
+  pub page-told : {L : Bor PageRecord → Answer → Type 0} (n : ℕ) (got : Option (Bor PageRecord)) (m : Option Answer) → closed ≤ length table → IsItemAt (take closed table) n got → MatchOption got (m ≡ None) (λ x. IsSomeAnd m (L x))
+      → ((x : Bor PageRecord) (a : Answer) → L x a → answer a ≡ told hint (kept x.now)) → told_by (ok_or m (at NoSuchPage n)) ≡ tells hint s (Page n)
+  page-told n None m within here none exact =
+      let past = simp length-take at here.3 in
+      let le : closed ≤ n = omega arith in
+      ap (λ (o : Option Answer). told_by (ok_or o (at NoSuchPage n))) none ∙ told_none n le
+  page-told n (Some x) None within here some exact = absurd some
+  page-told n (Some x) (Some a) within here some exact =
+      let inside = simp length-take at here.3.0 in
+      let lt : n < closed = omega arith in
+      ap (λ (t : Told). Ok t) (exact x a some ∙ ap (λ (r : PageRecord). told hint (kept r)) (here.1 ∙ get_or-take closed table n x.now lt)) ∙ told-page n x.now lt within
 
   pub column-record : (r : PageRecord) → kept r ≡ merged_from empty_record (map kept (take closed table)) → kept r ≡ record_at hint s Column
   column-record r e = e ∙ ap₂ merged_from (no_shapes hint) k.records

@@ -11,14 +11,25 @@ use Rattle.book.specs.declared.held.Book.{Book}
 use Rattle.book.specs.declared.requests.Request.{Request}
 use Rattle.book.specs.declared.requests.Request.TheVariants.{Opening}
 use Rattle.book.specs.declared.requests.Done.{Done}
+use Rattle.book.specs.declared.states.Slip.{Slip}
 use Rattle.book.specs.Answers.{given, added, returned}
 use Rattle.book.specs.Keeping.{KeptBy, Step, Written, size, hint_of}
 use Rattle.book.specs.Replay.{called, reply, Replies, Replayed, Runs, after_first}
-use Rattle.book.specs.Replied.{Reply, slipped, spent}
+use Rattle.book.specs.Replied.{Reply}
 use Rattle.book.specs.Standing.{Standing, Call, start, run, step, standing}
 use Rattle.book.proofs.Promised.{skips-soundly, tells-truly}
 
 -- ---- replies
+-- a slip that was handed out goes by its page
+abbrev pub slipped : Result Slip Fault → Reply
+slipped (Ok p) = Ok (Done.Opened p.page)
+slipped (Err f) = Err f
+
+-- the slip that comes back with a refusal is taken apart again
+abbrev pub spent : (ℕ → Done) → Result ℕ (Fault × Slip) → Reply
+spent done (Ok p) = Ok (done p)
+spent done (Err e) = Err e.0
+
 pub slipped-given : {D : Type 0} (p : ℕ) (v : Result D Fault) → slipped (given p v) ≡ reply (Done.Opened p) v
 slipped-given p (Ok d) = refl
 slipped-given p (Err f) = refl

@@ -151,11 +151,10 @@ impl<'a> Book<'a> {
     {
         let hint = self.pending.hint();
         match target {
-            Target::Page(n) if n < self.closed => {
-                let page = self.table[n];
-                Ok(page.tell(&hint))
-            }
-            Target::Page(n) => Err(Fault::new(Cause::NoSuchPage, n)),
+            Target::Page(n) => self.table[..self.closed]
+                .get(n)
+                .map(|page| page.tell(&hint))
+                .ok_or(Fault::new(Cause::NoSuchPage, n)),
             Target::Column => Ok(merged(&self.table[..self.closed]).tell(&hint)),
         }
     }

@@ -64,7 +64,7 @@ fn answer<K: IntervalTrait + Drop, S: ShapeSource>(
 }
 
 // Runs the calls on one new book, as many as there is room for replies, and answers how many those are. The other replies stay.
-// The replies are lent and no `Vec`, so that a replay never wants for memory.
+// A rule of the project: the library crates below the script take no heap of their own, so the replies are lent and no `Vec`.
 pub fn replay<K: IntervalTrait + Drop, S: ShapeSource>(
     table: &mut [PageRecord],
     pending: &mut CountingBounder,

@@ -6,6 +6,7 @@ use crate::states::State;
 use bounding::{CountingBounder, PageRecord};
 
 // A book over a lent table of page records, of which the first `closed` are pages. `pending` has the hint and the open page's bounds.
+// A rule of the project: the table is the caller's memory, with a count of closed pages, and no `Vec`, as no heap is taken here.
 #[derive(Drop)]
 pub struct Book<'a> {
     pub(crate) table: &'a mut [PageRecord],

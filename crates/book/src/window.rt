@@ -1,5 +1,4 @@
 // Windows, and the verdict on what is told.
-ghost use Rattle.std.specs.Prelude.{◌≡◌, false, MatchResult};
 ghost use Rattle.bounding.specs.Walk.{answer, optional};
 ghost use Rattle.book.specs.Verdicts.{AskedIf, Opened, SharesIf, TakenIf, Upright, frame_of};
 ghost use Rattle.book.specs.Windows.{TestedX, optional_set, set};

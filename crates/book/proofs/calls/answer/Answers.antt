@@ -3,9 +3,8 @@ use Rattle.shapes.specs.Wkb.{decode}
 use Rattle.book.specs.declared.requests.Done.TheVariants as Done
 use Rattle.book.specs.Answers.{brought_by}
 use Rattle.book.specs.Replay.{reply, telling, sifting}
-use Rattle.book.specs.Replied.{slipped, spent}
 use Rattle.book.proofs.Moves.{reworded, brought}
-use Rattle.book.proofs.Turns.{slipped-given, reply-added, spent-returned, at-request}
+use Rattle.book.proofs.Turns.{slipped, spent, slipped-given, reply-added, spent-returned, at-request}
 use Rattle.book.proofs.calls.answer.Goals as goal
 
 pub returns-in-Opening : goal.returns-in-Opening

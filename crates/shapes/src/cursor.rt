@@ -201,6 +201,7 @@ fn points_there(len: usize, size: usize, n: u32) -> u32
     ensures few { result ≤ n }
     ensures cut { result < n → len < result * size + size }
 {
+    // a product and no `min` with the quotient, since a division for each run takes 14% more time for single points
     if n as usize * size <= len {
         n
     } else {

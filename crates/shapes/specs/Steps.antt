@@ -1,5 +1,5 @@
 -- The steps of a cursor between two coordinates.
-use Rattle.std.specs.Prelude.{◌≡◌, ℕ, ◌+◌, ◌-◌, ◌<◌, ◌≤◌, true, false, List, [], ◌∷◌, ◌++◌, length, Some, None, Option, slice_index}
+use Rattle.std.specs.Prelude.{◌≡◌, ℕ, ◌+◌, ◌-◌, ◌<◌, ◌≤◌, true, false, List, [], ◌∷◌, ◌++◌, length, Some, None, Option, MatchOption, slice_index}
 use Rattle.std.specs.List.{AllByRecursion}
 use Rattle.shapes.specs.declared.endian.Endian.{Endian}
 use Rattle.shapes.specs.declared.code.Kind.{Kind}
@@ -26,6 +26,10 @@ pub record Moves (a b : Cursor) : Type 0 where
   pub less : effort b < effort a
   pub shorter : length b.rest.now ≤ length a.rest.now
   pub code : b.code ≡ a.code
+
+-- the cursor a moved on to b, or nothing is to come from it
+abbrev pub Stepped : Option (Unit {0}) → Cursor → Cursor → Type 0
+Stepped r a b = MatchOption r (still a ≡ []) (λ _. Moves a b)
 
 -- the coordinates of a shape of kind q whose header was just read, and of what follows it
 unfoldable pub entered : Cursor → Endian → Kind → List ℕ → List Coord

@@ -2,9 +2,6 @@
 ghost use Rattle.std.specs.Prelude.{◌≡◌};
 ghost use Rattle.shapes.specs.Codes as Codes;
 
-use std::error::Error;
-use std::fmt;
-
 // The kinds of shape, each with its number.
 #[derive(Clone, Copy, PartialEq, Eq, Debug)]
 pub enum Kind {
@@ -148,11 +145,3 @@ impl Code {
         }
     }
 }
-
-impl fmt::Display for UnknownCode {
-    fn fmt<W: fmt::Write>(&self, f: &mut fmt::Formatter<W>) -> fmt::Result {
-        write!(f, "no shape has code {}", self.0)
-    }
-}
-
-impl Error for UnknownCode {}

@@ -4,7 +4,7 @@ ghost use Rattle.std.specs.List.{fold};
 ghost use Rattle.std.specs.Simd.{first_chunks};
 ghost use Rattle.interval.specs.Pairs.{ends, nothing};
 ghost use Rattle.shapes.specs.Codes.{width};
-ghost use Rattle.shapes.specs.Columns.{column_of, spanned, with_bits, column, run};
+ghost use Rattle.shapes.specs.Columns.{column_of, spanned, with_bits, run};
 ghost use Rattle.shapes.specs.Hulls.{four, none, with_all};
 ghost use Rattle.shapes.specs.Numbers.{u64_at};
 
@@ -27,6 +27,7 @@ fn ordinates<const SIZE: usize>(four: &[[u8; SIZE]; 4], at: usize, order: Endian
     requires { at + 8 ≤ SIZE }
     ensures { result ≡ map (λ p. u64_at order (drop at p)) four.now }
 {
+    // `map` would need the contract of `bits_at` a second time, on its closure.
     let [p, q, r, s] = four;
     [
         bits_at(p, at, order),
@@ -84,12 +85,12 @@ impl From<Span> for Interval {
     }
 }
 
-// Two spans with four values more each. Where none of these is a NaN, which one test finds, no value is tested again as it is taken.
+// Two spans with four values more each. The last line has the text of the early return, but there the compiler knows that no value is a NaN, and tests none again as it is taken.
 #[inline(always)]
 fn block(a: Span, b: Span, x: [u64; 4], y: [u64; 4]) -> (Span, Span)
     ensures { (spanned result.0 ≡ fold with_bits (spanned a) x) × (spanned result.1 ≡ fold with_bits (spanned b) y) }
 {
-    // Point by point: a test of all x and then of all y, or one by an iterator, takes up to a tenth more time.
+    // Point by point and by name: a test of all x and then of all y takes up to a tenth more time; over `x.iter().zip(&y)`, `any` takes 4% more and `fold` 13%.
     let [x0, x1, x2, x3] = x;
     let [y0, y1, y2, y3] = y;
     if is_nan(x0)
@@ -128,7 +129,7 @@ fn scan<const SIZE: usize>(points: &[[u8; SIZE]], at: usize, order: Endian) -> (
     (a, b)
 }
 
-// The same, with a scan compiled for each byte order.
+// The same, with a scan compiled for each byte order: the order is tested once, and not for each number.
 fn pair<const SIZE: usize>(points: &[[u8; SIZE]], at: usize, order: Endian) -> (Span, Span)
     requires side { at + 16 ≤ SIZE }
     requires small { SIZE ≤ 32 }
@@ -156,6 +157,7 @@ pub(crate) fn hulls_of_points(bytes: &[u8], n: usize, order: Endian, dim: Dimens
     ensures { (j : Bool) → four result ≡ with_all none (run order dim j n bytes.now) }
 {
     let none = Span::empty();
+    // Xyz and Xym stay two arms: one for both would test the dimension a second time.
     match dim {
         Dimension::Xy => {
             let (x, y) = pair(points_of::<16>(bytes, n), 0, order);

@@ -2,7 +2,7 @@
 ghost use Rattle.std.specs.Prelude.{◌≡◌, ◌+◌, ◌-◌, ◌*◌, ◌/◌, ◌<◌, ◌≤◌, true, [], length, MatchOption, slice_index};
 ghost use Rattle.shapes.specs.Codes.{takes};
 ghost use Rattle.shapes.specs.Pending.{still, shape_of, Opens};
-ghost use Rattle.shapes.specs.Steps.{entered, Between, Moves, Enters, Settles, Gave, TookRun};
+ghost use Rattle.shapes.specs.Steps.{entered, Between, Stepped, Enters, Settles, Gave, TookRun};
 
 use crate::code::{Code, Dimension, Kind};
 use crate::columns::hulls_of_points;
@@ -41,7 +41,7 @@ impl<'a> Cursor<'a> {
             return s;
         };
         s.code = code;
-        s.enter(order, code.kind, after); // a shape with no coordinate for a fault leaves none to come
+        s.enter(order, code.kind, after); // where a fault leaves the shape without a coordinate, none is to come
         s
     }
 
@@ -49,7 +49,7 @@ impl<'a> Cursor<'a> {
     fn start_ring(&mut self) -> Option<()>
         requires rings { 0 < slice_index self.old.counts 31 }
         requires points { slice_index self.old.counts 32 ≡ 0 }
-        ensures { MatchOption result (still self.old ≡ []) (λ _. Moves self.old self.new) }
+        ensures { Stepped result self.old self.new }
     {
         let (n, rest) = count(self.rest, self.order).ok()?;
         self.rest = rest;
@@ -59,7 +59,7 @@ impl<'a> Cursor<'a> {
         Some(())
     }
 
-    // Begins a shape of this kind whose header was read; none, and nothing altered, where it has no coordinate for a fault.
+    // Begins a shape of this kind whose header was read; none, and nothing altered, where a fault leaves it without a coordinate.
     fn enter(&mut self, order: Endian, kind: Kind, after: &'a [u8]) -> Option<()>
         requires between { Between self.old }
         requires fitting { 0 < self.old.depth → takes self.old.inner kind ≡ true }
@@ -98,12 +98,12 @@ impl<'a> Cursor<'a> {
         }
     }
 
-    // Begins the next part of the innermost container; none where it has no coordinate for a fault.
+    // Begins the next part of the innermost container; none where a fault leaves it without a coordinate.
     fn start_part(&mut self) -> Option<()>
         requires deep { 0 < self.old.depth }
         requires more { 0 < slice_index self.old.counts (self.old.depth - 1) }
         requires between { Between self.old }
-        ensures { MatchOption result (still self.old ≡ []) (λ _. Moves self.old self.new) }
+        ensures { Stepped result self.old self.new }
     {
         let outer = Code {
             kind: self.inner,
@@ -117,7 +117,7 @@ impl<'a> Cursor<'a> {
     // Moves on from a line, a ring or a container that is at its end; none where nothing is to come.
     fn step(&mut self) -> Option<()>
         requires { slice_index self.old.counts 32 ≡ 0 }
-        ensures { MatchOption result (still self.old ≡ []) (λ _. Moves self.old self.new) }
+        ensures { Stepped result self.old self.new }
     {
         if self.counts[RINGS] > 0 {
             return self.start_ring();
@@ -201,6 +201,7 @@ fn points_there(len: usize, size: usize, n: u32) -> u32
     ensures few { result ≤ n }
     ensures cut { result < n → len < result * size + size }
 {
+    // a product and no `min` with the quotient, since a division for each run takes 14% more time for single points
     if n as usize * size <= len {
         n
     } else {

@@ -54,9 +54,7 @@ pub(crate) fn header(bytes: &[u8], outer: Option<Code>) -> Result<(Endian, Code,
     let [first, a, b, c, d, rest @ ..] = bytes else {
         return Err(cut_header(bytes));
     };
-    let Ok(order) = Endian::try_from(*first) else {
-        return Err(Stop::before(Cause::ByteOrder, bytes));
-    };
+    let order = Endian::try_from(*first).map_err(|cause| Stop::before(cause, bytes))?;
     let Ok(code) = Code::try_from(order.read_u32([*a, *b, *c, *d])) else {
         return Err(Stop::before(Cause::TypeCode, &bytes[1..]));
     };

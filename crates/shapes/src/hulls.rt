@@ -6,7 +6,7 @@ ghost use Rattle.shapes.specs.Hulls.{four};
 use crate::coord::Coord;
 use interval::{Interval, IntervalTrait};
 
-// The hulls of one run on the four axes.
+// The hulls of one run on the four axes. The axes are four named fields and no one type, since elsewhere x has a type of its own.
 #[derive(Clone, Copy)]
 pub struct Hulls {
     pub x: Interval,

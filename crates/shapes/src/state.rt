@@ -4,7 +4,7 @@ ghost use Rattle.std.specs.Prelude.{◌≤◌};
 use crate::code::{Code, Kind};
 use crate::endian::Endian;
 
-// A reader of bytes between two coordinates. `counts` has the parts to come of up to 31 open containers, `depth` of them open and the innermost of kind `inner`, then the rings and the points to come of the current shape, whose byte order is `order`.
+// A reader of bytes between two coordinates. `counts` has the parts to come of up to 31 open containers, `depth` of them open and the innermost of kind `inner`, then the rings and the points to come of the current shape, whose byte order is `order`. They are one fixed array, so that a cursor needs no memory of its own.
 #[derive(Clone, Copy)]
 pub struct Cursor<'a> {
     pub(crate) rest: &'a [u8],

@@ -147,6 +147,6 @@ byte_skips wrapping w h r b k e = skipped_none w h r (byte_zero w (told h (kept_
 
 -- ---- what a call promises where it is granted
 
-pub granted_gives : (r : Result (Unit {0}) Refusal) (o : Option Refusal) (P Q R : Type 0) → MatchResult r (λ _. (o ≡ None) × P) (λ e. (o ≡ Some e) × Q) → (P → R) → Unless o R (Unit {0})
-granted_gives (Ok u) o P Q R (e, p) f = rw e (f p)
-granted_gives (Err x) o P Q R (e, q) f = rw e tt
+pub unless-gives : (o : Option Refusal) (P Q R : Type 0) → Unless o P Q → (P → R) → Unless o R (Unit {0})
+unless-gives None P Q R p f = f p
+unless-gives (Some e) P Q R q f = tt

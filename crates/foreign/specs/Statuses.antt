@@ -1,5 +1,5 @@
 -- The statuses that the exported calls return, and what they write into the fault.
-use Rattle.std.specs.Prelude.{◌≡◌, ℤ, pos, negsuc, Some, None, Ok, Err, Option, Result}
+use Rattle.std.specs.Prelude.{◌≡◌, ℤ, pos, negsuc, Some, None, Ok, Err, Option, Result, MatchResult}
 use Rattle.interval.specs.declared.fault.Fault.{Fault}
 use Rattle.interval.specs.Faults.{number, layer, layer_number}
 use Rattle.foreign.specs.declared.raw.RawFault.{RawFault}
@@ -39,6 +39,10 @@ Answers o f r g = (r ≡ returned o) × (g ≡ fault_after o f)
 abbrev pub refusal_of : Result (Unit {0}) Refusal → Option Refusal
 refusal_of (Ok _) = None
 refusal_of (Err e) = Some e
+
+-- an answer that is granted where o is no refusal, and else is o
+abbrev pub Does : {A : Type 0} → Option Refusal → (A → Type 0) → Result A Refusal → Type 0
+Does o granted r = MatchResult r (λ a. (o ≡ None) × granted a) (λ e. o ≡ Some e)
 
 -- a call does its work where it is granted, and else leaves what it was handed
 abbrev pub Unless : Option Refusal → Type 0 → Type 0 → Type 0

@@ -1,5 +1,5 @@
 // Between the plain structs and the library's own values.
-ghost use Rattle.std.specs.Prelude.{◌≡◌, Some, None, MatchResult};
+ghost use Rattle.std.specs.Prelude.{◌≡◌};
 ghost use Rattle.interval.specs.Pairs.{ends};
 ghost use Rattle.bounding.specs.Walk.{answer, kept, optional};
 ghost use Rattle.foreign.specs.Calls.{Takes};

@@ -4,6 +4,7 @@ ghost use Rattle.interval.specs.Pairs.{Pair};
 ghost use Rattle.bounding.specs.Told as Told;
 ghost use Rattle.foreign.specs.Calls.{PageByte, Rules, byte_of, page_refusal, pairs_refusal};
 ghost use Rattle.foreign.specs.Questions.{Poses, asked_in};
+ghost use Rattle.foreign.specs.Statuses.{Does};
 ghost use Rattle.foreign.specs.Values as Values;
 ghost use Rattle.foreign.specs.Values.{kept_in, pair_of, wraps};
 ghost use Rattle.foreign.specs.declared.raw.RawWindow.{RawWindow};
@@ -24,7 +25,13 @@ pub(crate) struct Question {
     window: EitherWindow,
 }
 
-// The number that the C interface gives a verdict; no `From`, since both types are of other crates.
+// C's PAGEBOUNDS_REFUSED: the window's kind cannot take the page's x pair.
+const REFUSED: u8 = 2;
+
+// C's PAGEBOUNDS_NO_RECORD: no bounder keeps such a record.
+const NO_RECORD: u8 = 3;
+
+// The number of a verdict. It is C's alone, so `book` has no `From` for it.
 fn byte_of(verdict: Verdict) -> u8
     ensures { result ≡ byte_of verdict }
 {
@@ -44,7 +51,7 @@ impl Question {
 
     // The verdict on a page as its byte.
     pub(crate) fn verdict(&self, page: &RawRecord) -> Result<u8, Refusal>
-        ensures { (w : RawWindow) (h : Pair) → Poses w h self.now → MatchResult result (λ b. (page_refusal (wraps w) h page.now ≡ None) × Rules (Values.frame w) (Told.told h (kept_in page.now)) b) (λ e. page_refusal (wraps w) h page.now ≡ Some e) }
+        ensures { (w : RawWindow) (h : Pair) → Poses w h self.now → Does (page_refusal (wraps w) h page.now) (Rules (Values.frame w) (Told.told h (kept_in page.now))) result }
     {
         let kept = PageRecord::try_from(page)?;
         let verdict = self.window.judge(&kept.tell(&self.hint))?;
@@ -57,8 +64,8 @@ impl Question {
     {
         match self.verdict(page) {
             Ok(verdict) => verdict,
-            Err(Refusal::Refused(_)) => 2,
-            Err(Refusal::Misused(_)) => 3,
+            Err(Refusal::Refused(_)) => REFUSED,
+            Err(Refusal::Misused(_)) => NO_RECORD,
         }
     }
 }

@@ -1,7 +1,7 @@
 // Why an exported call did not do what it was asked: a refusal of the library, or a misuse that only callers from outside can commit.
-ghost use Rattle.std.specs.Prelude.{◌≡◌};
+ghost use Rattle.std.specs.Prelude.{◌≡◌, Some};
 ghost use Rattle.foreign.specs.Statuses as Statuses;
-ghost use Rattle.foreign.specs.Statuses.{Answers, refusal_of};
+ghost use Rattle.foreign.specs.Statuses.{Answers};
 ghost use Rattle.foreign.specs.declared.refusals.Refusal.TheVariants.{Refused, Misused};
 
 use crate::raw::RawFault;
@@ -67,17 +67,12 @@ impl From<Fault> for RawFault {
     }
 }
 
-// The status of an answer, a number for C: 0 where it was granted. The fault is written where the library refused, and else left.
-pub(crate) fn status(answer: Result<(), Refusal>, fault: &mut RawFault) -> i32
-    ensures { Answers (refusal_of answer) fault.old result fault.new }
+// Why a call was refused, told to C: the status is returned, and the fault written where the library refused, and else left.
+pub(crate) fn refused(refusal: Refusal, fault: &mut RawFault) -> i32
+    ensures { Answers (Some refusal) fault.old result fault.new }
 {
-    match answer {
-        Ok(()) => 0,
-        Err(refusal) => {
-            if let Refusal::Refused(f) = refusal {
-                *fault = f.into();
-            }
-            refusal.into()
-        }
+    if let Refusal::Refused(f) = refusal {
+        *fault = f.into();
     }
+    refusal.into()
 }

@@ -80,7 +80,7 @@ impl TryFrom<&RawWindow> for Asked {
 }
 
 impl EitherWindow {
-    // The window that is asked for, or the refusal of one of its pairs.
+    // The window that is asked for, or the refusal of one of its pairs. A window's kind is a type: each arm is another instance.
     pub(crate) fn new(asked: Asked) -> Result<EitherWindow, Fault>
         ensures { (w : RawWindow) → asked ≡ asked_in w → OpensEither w result }
     {
@@ -91,6 +91,7 @@ impl EitherWindow {
         }
     }
 
+    // Here too each arm is another instance.
     pub(crate) fn judge(&self, told: &Answer) -> Result<Verdict, Fault>
         ensures { Upright (answer told.now) → TestedX (wrapping_in self.now) (frame_in self.now) Column (answer told.now) (answer told.now).x result }
     {

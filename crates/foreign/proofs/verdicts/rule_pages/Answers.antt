@@ -26,4 +26,7 @@ returns c =
     let w = c.args.window.now in
     let long : eqb (length c.args.pages.now) (length c.args.verdicts.now) ≡ true = eq-eqb _ _ (omega arith) in
     let (pairs, poses) = c.in_ok-question.ensures w c.in_ok-asked.ensures.1 in
-    (rw (c.in_ok-asked.ensures.0, long, pairs) refl, λ k d lt. c.loop-i.invariant k d (omega arith))
+    record {
+      refusal = rw (c.in_ok-asked.ensures.0, long, pairs) refl;
+      verdicts = rw (c.in_ok-asked.ensures.0, long, pairs) (λ k d lt. c.loop-i.invariant k d (omega arith));
+    }

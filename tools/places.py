@@ -10,6 +10,7 @@ PATTERNS = {
         r"fn \w+\(&mut self.*-> bool\b|Result<bool\b",
         r"^\s+(Refused|SourceRefused|Over)\b.*,$",
         r"\b(None|Err\(\w+\)) => (return )?(None|false|Ok\(None\)|Err\()",
+        r"let (Some|Ok)\(.*\) = .* else \{",
         r"fn (number|layer|status|kind_wraps)\b",
     ],
     "3 loops that count": [
@@ -17,13 +18,13 @@ PATTERNS = {
         r"for \w+ in [\w.]+\.\.",
     ],
     "4 conversion, equality and printing by hand": [
-        r"fn (from_\w+|named|same|equals|byte_of|has|inner|plain\w*|raw_\w+|page_record|taken|hulls_of|bounds|\w+_reply)\b",
+        r"fn (from_(?!str)\w+|named|same|equals|byte_of|has|inner|plain\w*|raw_\w+|page_record|taken|hulls_of|bounds|\w+_reply)\b",
         r"\.number\(\) ==|== \w+\.number\(\)",
     ],
     "6 fixed buffers, lent lists beside one another, bytes by index": [
         r": \[\w+; \d+\]",
         r": &('\w+ )?mut \[",
-        r"^\s*b\[\w+( \+ \d)?\],$|\[b\[0\]",
+        r"^\s*\w+\[\w+( \+ \d)?\],$|\[\w+\[0\]",
     ],
     "7 switches on a step": [
         r"match (self\.step\(\)|rule\(|asked\b|named\b|command\b|form\b)",

@@ -38,6 +38,7 @@ fn answer<K: IntervalTrait + Drop, S: ShapeSource>(
     match request {
         Request::Opening => book.open().map(opened),
         Request::Retaking(n) => book.retake(*n).map(opened),
+        // These two stay apart: a helper handed the call as a closure would have to promise again what `add` and `add_wkb` leave of the book.
         Request::Adding(p, source) => {
             let slip = Slip { page: *p };
             let added = book.add(&slip, source);

@@ -65,15 +65,12 @@ pub(crate) fn header(bytes: &[u8], outer: Option<Code>) -> Result<(Endian, Code,
 }
 
 // The eight bytes at the start as a float.
-#[tactic(auto, using(crate::proofs::Ordinates::f64_list))]
+#[tactic(auto, unfolding(crate::specs::Numbers::f64_at))]
 fn ordinate(bytes: &[u8], order: Endian) -> f64
     requires { 8 ≤ length bytes.now }
     ensures { result ≡ f64_at order bytes.now }
 {
-    // one by one, since with `first_chunk` a walk by coordinates takes a fifth longer
-    order.read_f64([
-        bytes[0], bytes[1], bytes[2], bytes[3], bytes[4], bytes[5], bytes[6], bytes[7],
-    ])
+    order.read_f64(bytes[..8].try_into().unwrap())
 }
 
 // The coordinate at the start.

@@ -1,5 +1,5 @@
-use Rattle.std.proofs.Common.{◌≡◌, length, get_or}
-use Rattle.foreign.specs.Calls.{PageBytes, SkipsSoundly, verdicts_refusal}
+use Rattle.std.proofs.Common.{length, get_or}
+use Rattle.foreign.specs.Calls.{PageBytes, verdicts_refusal}
 use Rattle.foreign.specs.Values.{frame, pair_of, wraps}
 use Rattle.foreign.proofs.Judging.{byte_skips, unless-gives}
 use Rattle.foreign.proofs.verdicts.pagebounds_verdicts.Goals as goal
@@ -11,4 +11,4 @@ returns-in-Ok-clause-skipped c =
     let h = pair_of c.args.hint.now in
     let rs = c.args.pages.now in
     let bs = c.rule_pages.new.verdicts in
-    unless-gives (verdicts_refusal raw (length rs) (length c.args.verdicts.now)) (PageBytes (wraps raw) w h rs bs) (bs ≡ c.args.verdicts.now) (SkipsSoundly w h rs bs) c.rule_pages.ensures.verdicts (λ bytes k d lt e. byte_skips (wraps raw) w h (get_or rs k d) (get_or bs k 0) (bytes k d lt) e)
+    unless-gives (verdicts_refusal raw (length rs) (length c.args.verdicts.now)) (PageBytes (wraps raw) w h rs bs) _ _ c.rule_pages.ensures.verdicts (λ bytes k d lt e. byte_skips (wraps raw) w h (get_or rs k d) (get_or bs k 0) (bytes k d lt) e)

@@ -235,14 +235,14 @@ module _ {hint : Pair} {s : Standing} {table : List PageRecord} {pending : PageR
   told_none n le = let past : length s.pages ≤ n = rw k.count at le in cond_above n (length s.pages) _ _ _ past refl
 
   -- what the closed pages have at n, told, or the refusal
-  pub page-told : {L : Bor PageRecord → Answer → Type 0} (n : ℕ) (got : Option (Bor PageRecord)) (m : Option Answer) → closed ≤ length table → IsItemAt (take closed table) n got → MatchOption got (m ≡ None) (λ x. IsSomeAnd m (L x))
+  pub told-got : {L : Bor PageRecord → Answer → Type 0} (n : ℕ) (got : Option (Bor PageRecord)) (m : Option Answer) → closed ≤ length table → IsItemAt (take closed table) n got → MatchOption got (m ≡ None) (λ x. IsSomeAnd m (L x))
       → ((x : Bor PageRecord) (a : Answer) → L x a → answer a ≡ told hint (kept x.now)) → told_by (ok_or m (at NoSuchPage n)) ≡ tells hint s (Page n)
-  page-told n None m within here none exact =
+  told-got n None m within here none exact =
       let past = simp length-take at here.3 in
       let le : closed ≤ n = omega arith in
       ap (λ (o : Option Answer). told_by (ok_or o (at NoSuchPage n))) none ∙ told_none n le
-  page-told n (Some x) None within here some exact = absurd some
-  page-told n (Some x) (Some a) within here some exact =
+  told-got n (Some x) None within here some exact = absurd some
+  told-got n (Some x) (Some a) within here some exact =
       let inside = simp length-take at here.3.0 in
       let lt : n < closed = omega arith in
       ap (λ (t : Told). Ok t) (exact x a some ∙ ap (λ (r : PageRecord). told hint (kept r)) (here.1 ∙ get_or-take closed table n x.now lt)) ∙ told-page n x.now lt within

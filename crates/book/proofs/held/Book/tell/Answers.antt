@@ -7,7 +7,7 @@ use Rattle.bounding.specs.Walk.{kept, answer}
 use Rattle.book.specs.Standing.{Standing}
 use Rattle.book.specs.Promises.{tells}
 use Rattle.book.specs.Keeping.{KeptBy, hint_of}
-use Rattle.book.proofs.Moves.{asked, page-told, column-record, told-truly}
+use Rattle.book.proofs.Moves.{asked, told-got, column-record, told-truly}
 use Rattle.book.proofs.held.Book.tell.Goals as goal
 
 pub returns-in-Page-clause-step : goal.returns-in-Page-clause-step
@@ -17,7 +17,7 @@ returns-in-Page-clause-step c =
     asked b
     (λ s k.
     ap told_by (c.ok_or.ensures.value ∙ ap (ok_or c.map.result) c.new.ensures)
-    ∙ page-told k c.in-Page.n c.get.result c.map.result within c.get.ensures.lookup c.map.ensures.cases (λ x a l. search rules) ∙ ap (tells (hint_of b) s) (sym c.in-Page.is))
+    ∙ told-got k c.in-Page.n c.get.result c.map.result within c.get.ensures.lookup c.map.ensures.cases (λ x a l. search rules) ∙ ap (tells (hint_of b) s) (sym c.in-Page.is))
 
 pub returns-in-Column : goal.returns-in-Column
 returns-in-Column c =

@@ -151,7 +151,7 @@ fn points_of<const SIZE: usize>(bytes: &[u8], n: usize) -> &[[u8; SIZE]]
     &all[..n]
 }
 
-// The hulls of n points.
+// The hulls of n points. n is their count and not the length of the bytes, behind which other shapes may follow.
 pub(crate) fn hulls_of_points(bytes: &[u8], n: usize, order: Endian, dim: Dimension) -> Hulls
     requires { n * (8 * width dim) ≤ length bytes.now }
     ensures { (j : Bool) → four result ≡ with_all none (run order dim j n bytes.now) }

@@ -20,7 +20,7 @@ pub enum Asked {
     Discard(usize),
 }
 
-// What a granted call does.
+// What a granted call does: by a rule of the project, one match on the book's state and the call decides it.
 #[derive(Clone, Copy, PartialEq, Eq, Debug)]
 pub enum Deed {
     // opens a new page
@@ -37,7 +37,7 @@ pub enum Deed {
     Forget,
 }
 
-// A page, or all pages together.
+// A page, or all pages together. It is no `Option`, since the column is not the lack of a page.
 #[derive(Clone, Copy, PartialEq, Eq, Debug)]
 pub enum Target {
     Page(usize),

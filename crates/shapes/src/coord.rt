@@ -4,7 +4,7 @@ ghost use Rattle.shapes.specs.Source.{exchange, on_axes};
 
 use crate::code::Dimension;
 
-// An axis that the shape's dimension lacks is NaN. `joins` says whether the coordinate joins the one before, as all but the first of a line or ring do.
+// An axis that the shape's dimension lacks is NaN and no `Option`, by a rule of the project. `joins` says whether the coordinate joins the one before, as all but the first of a line or ring do.
 #[derive(Clone, Copy)]
 pub struct Coord {
     pub x: f64,

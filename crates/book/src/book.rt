@@ -58,6 +58,7 @@ impl<'a> Book<'a> {
     fn apply(&mut self, asked: Asked) -> Result<(), Fault>
         ensures { Moved self.old self.new asked (Ok []) (λ _. added) result }
     {
+        // by a rule of the project, the match in `rule` on state and call decides, and this does what it says
         match self.ruled(asked)? {
             Deed::Begin => {
                 self.pending.restart(); // a new page has no shapes yet
@@ -111,6 +112,7 @@ impl<'a> Book<'a> {
         }
     }
 
+    // `close` and `discard` are calls of their own by a rule of the project, which names each call.
     pub fn close(&mut self, slip: Slip) -> Result<usize, (Fault, Slip)>
         ensures { Moved self.old self.new (Asked.Close slip.page) (Ok []) (λ _. returned slip.page) result }
     {

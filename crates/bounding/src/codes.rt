@@ -47,7 +47,7 @@ impl CodeSet {
         ensures { IfOk result (λ v. v.items ≡ numbers self.bits) }
     {
         let mut found = Vec::new(heap);
-        // The bits are read off from the lowest on, as `listed` has them.
+        // Each place of a bit in turn, from which its code is reckoned; the bits are read off from the lowest on, as `listed` has them.
         let mut rest = self.bits;
         for at in 0..CODES {
             if rest % 2 == 1 {

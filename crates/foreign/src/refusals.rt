@@ -67,7 +67,7 @@ impl From<Fault> for RawFault {
     }
 }
 
-// Why a call was refused, told to C: the status is returned, and the fault written where the library refused, and else left.
+// Why a call was refused, told to C, which reads a number: the status is returned, and the fault written where the library refused, and else left.
 pub(crate) fn refused(refusal: Refusal, fault: &mut RawFault) -> i32
     ensures { Answers (Some refusal) fault.old result fault.new }
 {

@@ -16,7 +16,7 @@
 // under the License.
 
 // Changed: ported to Rattle from src/interval.rs of parquet-geospatial 60.0.0. `mid` differs where the width overflows; `take`, `same`
-// and the contracts are added; `least` and `most` stand for `f64::min` and `f64::max`.
+// and the contracts are added; `least` and `most` stand for `f64::min` and `f64::max`; one conversion takes pairs of any type that an f64 holds.
 ghost use Rattle.std.specs.Prelude.{◌≡◌, true, false, cond, ◌||◌, IfOk, MatchResult, is_nan};
 ghost use Rattle.std.specs.Float.{binary64, float_max, float_min};
 ghost use Rattle.std.specs.Float.Ieee.{of_int};

@@ -17,7 +17,7 @@
 
 // Changed: ported to Rattle from src/interval.rs of parquet-geospatial 60.0.0. `contains_interval` also answers yes on the upper side and
 // for the full interval, and `merge_interval` widens the one side that is met; `take`, `same`, `to_ordinary` (which was `TryFrom`) and
-// the contracts are added; `least` and `most` stand for `f64::min` and `f64::max`.
+// the contracts are added; `least` and `most` stand for `f64::min` and `f64::max`; one conversion takes pairs of any type that an f64 holds.
 ghost use Rattle.std.specs.Prelude.{◌≡◌, true, IfOk};
 ghost use Rattle.std.specs.Float.{binary64};
 ghost use Rattle.std.specs.Float.Ieee.{of_int};

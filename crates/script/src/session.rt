@@ -82,6 +82,7 @@ impl Session {
     ) -> Result<Answer, NotGranted<'a>>
         ensures { self.new.tally ≡ self.old.tally }
     {
+        // an enum of the commands would be matched here alone; the forms of a shape, which stand behind `count` too, have one
         match command {
             "interval" => pairs::obey(words),
             "bounder" => {

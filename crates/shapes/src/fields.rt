@@ -55,6 +55,7 @@ pub(crate) fn header(bytes: &[u8], outer: Option<Code>) -> Result<(Endian, Code,
         return Err(cut_header(bytes));
     };
     let order = Endian::try_from(*first).map_err(|cause| Stop::before(cause, bytes))?;
+    // by `map_err` and `?` the proof of this test did not close
     let Ok(code) = Code::try_from(order.read_u32([*a, *b, *c, *d])) else {
         return Err(Stop::before(Cause::TypeCode, &bytes[1..]));
     };

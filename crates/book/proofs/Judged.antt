@@ -27,11 +27,11 @@ use Rattle.book.specs.Windows.{Frame, Firm, IfAsked, Shares, SharesAll, Decides,
 use Rattle.book.specs.Verdicts.{SharesIf, AskedIf, Upright, UprightIf, pair_of, optional_pair, refused_if}
 
 -- a stored pair of numbers covers its lower end
-stored-lower : (e : Pair) → Held e.lo → T (not (is_nan e.lo)) → Inhabited (stored e)
+pub stored-lower : (e : Pair) → Held e.lo → T (not (is_nan e.lo)) → Inhabited (stored e)
 stored-lower e h n = (e.lo, (h, n), let l = le_refl e.lo n in grind arith)
 
 -- ---- one axis
-taken_shares : (covered s : Set) (e : Pair) (r : Bool) → Held e.lo → T (not (is_nan e.lo)) → Equal covered (stored e) → Meets covered s r → (T r → Inhabited s → Common (stored e) s) × (Common (stored e) s → T r)
+pub taken_shares : (covered s : Set) (e : Pair) (r : Bool) → Held e.lo → T (not (is_nan e.lo)) → Equal covered (stored e) → Meets covered s r → (T r → Inhabited s → Common (stored e) s) × (Common (stored e) s → T r)
 taken_shares covered s e r h n eq m = (
   (λ t i.
       let (w, W, k) = stored-lower e h n in
@@ -41,7 +41,7 @@ taken_shares covered s e r h n eq m = (
 )
 
 -- ordinary ends that go up cover what Parquet gives their pair
-told-shares : (e : Pair) (s : Set) (r : Bool) → Held e.lo → Meets (between e) s r → SharesIf (Some e) s r
+pub told-shares : (e : Pair) (s : Set) (r : Bool) → Held e.lo → Meets (between e) s r → SharesIf (Some e) s r
 told-shares e s r h m up = taken_shares (between e) s e r h (le_left e.lo e.hi up) (λ v V. grind arith) m
 
 pub told-shares-if : (o : Option Interval) (s : Set) (r : Bool) → MatchOption o (r ≡ false) (λ i. Meets (between (ends i)) s r) → SharesIf (optional o) s r
@@ -65,7 +65,7 @@ asked_no o None r h u k = subst T (sym h) tt
 asked_no o (Some s) r h u k = told-no o s r h u k
 
 -- ---- all axes
-lower-number : (wrapping : Bool) (e : Pair) → refusal wrapping e ≡ None → T (not (is_nan e.lo))
+pub lower-number : (wrapping : Bool) (e : Pair) → refusal wrapping e ≡ None → T (not (is_nan e.lo))
 lower-number wrapping e h = grind arith
 
 module _ (wrapping : Bool) (t : Told) (w : Frame) (e : Pair) (covered : Set) (x y z m : Bool) (is : t.x ≡ Some e) (held : Held e.lo) (granted : refusal wrapping e ≡ None) (eq : Equal covered (stored e)) (meets : Meets covered w.x x) (u : Upright t)

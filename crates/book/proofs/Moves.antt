@@ -177,7 +177,7 @@ module _ {hint : Pair} {s : Standing} {table : List PageRecord} {pending : PageR
       }
 
   -- the pending record, by the state
-  in_hand : (q : State) → state ≡ q → Pending hint q pending s.current
+  pub in_hand : (q : State) → state ≡ q → Pending hint q pending s.current
   in_hand q e = subst (λ (q : State). Pending hint q pending s.current) e k.open_list
 
   module _ (r : PageRecord) (same : r ≡ pending) where
@@ -226,12 +226,12 @@ module _ {hint : Pair} {s : Standing} {table : List PageRecord} {pending : PageR
       let below : n < length s.pages = rw k.count at lt in
       ap kept (sym (get_or-take closed table n d lt)) ∙ sym (get_or-map kept (take closed table) n d (kept d) inside) ∙ ap (λ (l : List Kept). get_or l n (kept d)) k.records ∙ get_or-map (record_of hint) s.pages n [] (kept d) below
 
-  told-page : (n : ℕ) (d : PageRecord) → n < closed → closed ≤ length table → Ok (told hint (kept (get_or table n d))) ≡ tells hint s (Page n)
+  pub told-page : (n : ℕ) (d : PageRecord) → n < closed → closed ≤ length table → Ok (told hint (kept (get_or table n d))) ≡ tells hint s (Page n)
   told-page n d lt within =
       let below : n < length s.pages = rw k.count at lt in
       ap {B = Result Told Fault} (λ (q : Kept). Ok (told hint q)) (page_record n d lt within) ∙ cond_below n (length s.pages) _ _ below
 
-  told_none : (n : ℕ) → closed ≤ n → Err (at NoSuchPage n) ≡ tells hint s (Page n)
+  pub told_none : (n : ℕ) → closed ≤ n → Err (at NoSuchPage n) ≡ tells hint s (Page n)
   told_none n le = let past : length s.pages ≤ n = rw k.count at le in cond_above n (length s.pages) _ _ _ past refl
 
   -- what the closed pages have at n, told, or the refusal

@@ -1,14 +1,19 @@
 -- The set of the codes of shapes, by its bits.
-use Rattle.std.proofs.Common.{◌≡◌, ℕ, ◌^◌, ◌≤◌, List, [], ◌∷◌, ◌++◌, sym, refl, ap, ◌∙◌, subst, inl, inr, le_antisymm, arith}
+use Rattle.std.proofs.Common.{◌≡◌, ℕ, ◌^◌, ◌<◌, ◌≤◌, List, [], ◌∷◌, ◌++◌, sym, refl, ap, ◌∙◌, subst, inl, inr, le_antisymm, arith, lit<}
 use mathlib.Core.List.{Memᴰ}
-use lib.Bits.{bit_or, or_zero_l}
+use lib.Bits.{bit_or, or_zero_l, or_lt}
 use Rattle.std.specs.Int.{bit_at}
 use Rattle.std.proofs.lemmas.Bool.{cases_eq}
+use Rattle.std.proofs.lemmas.Nat.{pow_below}
 use Rattle.std.proofs.lemmas.Nat.Bits.{bit_at-zero, bit_at_or, bit_at-pow_same, bit_at-pow_other, bit_at-lt, same_from_bits}
+use Rattle.shapes.specs.declared.code.Code.{Code}
+use Rattle.shapes.specs.declared.code.Kind.{Kind}
+use Rattle.shapes.specs.declared.code.Dimension.{Dimension}
+use Rattle.shapes.specs.Codes.{kind_number, dim_number}
 use Rattle.shapes.specs.Source.{Shape}
 use Rattle.bounding.specs.Record.{place, codes_of}
 
-or_assoc : (a b c : ℕ) → bit_or (bit_or a b) c ≡ bit_or a (bit_or b c)
+pub or_assoc : (a b c : ℕ) → bit_or (bit_or a b) c ≡ bit_or a (bit_or b c)
 or_assoc a b c = same_from_bits (bit_or (bit_or a b) c) (bit_or a (bit_or b c)) (λ i. grind (arith, bit_at_or))
 
 pub codes-append : (a b : List Shape) → codes_of (a ++ b) ≡ bit_or (codes_of a) (codes_of b)
@@ -48,3 +53,18 @@ bits-into a b f j =
 
 pub codes_same : (a b : List Shape) → ((s : Shape) → Memᴰ s a → Memᴰ s b) → ((s : Shape) → Memᴰ s b → Memᴰ s a) → codes_of a ≡ codes_of b
 codes_same a b f g = same_from_bits (codes_of a) (codes_of b) (λ j. le_antisymm (bits-into a b f j) (bits-into b a g j))
+
+-- ---- the set has 28 bits
+dim-small : (d : Dimension) → dim_number d ≤ 3
+dim-small d = grind arith
+
+pub kind-range : (k : Kind) → (1 ≤ kind_number k) × (kind_number k ≤ 7)
+kind-range k = (grind arith, grind arith)
+
+pub place-small : (c : Code) → place c < 28
+place-small c = omega (arith, dim-small c.dim, kind-range c.kind)
+
+pub codes-small : (ss : List Shape) → codes_of ss < 2 ^ 28
+unfolding codes_of
+codes-small [] = lit< tt
+codes-small (s ∷ ss) = or_lt 28 (2 ^ place s.code) (codes_of ss) (pow_below (place s.code) 28 (place-small s.code)) (codes-small ss)

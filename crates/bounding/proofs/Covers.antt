@@ -131,6 +131,13 @@ module _ (f : Axis) (p : Pair → Bool) (P : Pair → Type 0) (each : (r : Run) 
   pub gathered : (rs : List Run) → empty (gather f p rs) ≡ false → P (gather f p rs)
   gathered rs e = elim (nothing-or rs) [ inl n ↦ absurd (true≢false (sym (ap empty n ∙ empty-nothing) ∙ e)) | inr h ↦ h ]
 
+-- every hull on the left pair below t, on the right begins above it
+pub left_below : (f : Axis) (t : Float) (rs : List Run) → (gather f (below t) rs ≡ nothing) ⊎ T (lt (gather f (below t) rs).hi t)
+left_below f t rs = nothing-or f (below t) (λ z. T (lt z.hi t)) (λ r h. inr h) (λ a b h k. cond_both _ _ _ (λ v. T (lt v t)) (λ _. h) (λ _. k)) rs
+
+pub right-above : (f : Axis) (t : Float) (rs : List Run) → (gather f (above t) rs ≡ nothing) ⊎ T (lt t (gather f (above t) rs).lo)
+right-above f t rs = nothing-or f (above t) (λ z. T (lt t z.lo)) (λ r h. inr (and_r _ _ h)) (λ a b h k. cond_both _ _ _ (λ v. T (lt t v)) (λ _. h) (λ _. k)) rs
+
 -- a hull is on one of three sides
 pub data Sided (t : Float) (e : Pair) : Type 0 where
   on_left : T (below t e) → Sided t e

@@ -9,7 +9,7 @@ use Rattle.shapes.specs.declared.code.Code.{Code}
 use Rattle.shapes.specs.Codes.{code_number}
 use Rattle.bounding.specs.Record.{place, codes_of}
 use Rattle.bounding.specs.Numbers.{number_at, listed, Rising, NumbersExact}
-use Rattle.bounding.proofs.BitSets.{shape-bit, bit_shape}
+use Rattle.bounding.proofs.BitSets.{place-small, shape-bit, bit_shape}
 
 -- ---- the list of a set
 
@@ -50,9 +50,6 @@ listed-rising (suc n) p b =
     (λ e. (λ k m. let r = listed-bit n (suc p) (b / 2) k m in subst (λ (x : ℕ). number_at p < x) (sym r.2) (number-rises p r.0), rest)) (λ e. rest)
 
 -- ---- the list of shapes
-
-place-small : (c : Code) → place c < 28
-place-small c = grind arith
 
 -- the number at a code's place is the code's
 number-place : (c : Code) → code_number c ≡ number_at (0 + place c)

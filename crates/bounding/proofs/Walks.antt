@@ -171,7 +171,7 @@ module _ (t : Float) where
       each-same (λ f p g e. come cs f p (put (p e) g e) (merged nothing (one f c))) (come (c ∷ cs)) k h
       (λ f p g e G E. put-pick (p e) g e (coming f p (merged nothing (one f c)) cs) ∙ ap (merged g) (sym (come_next f p e c cs E j))) K H
 
-  walk_is : (cs : List Coord) (k : Kept) (h : Four) → PlainKept k → PlainFour h → walk t k h cs ≡ each (come cs) k h
+  pub walk_is : (cs : List Coord) (k : Kept) (h : Four) → PlainKept k → PlainFour h → walk t k h cs ≡ each (come cs) k h
   unfolding walk
   walk_is [] k h K H = end_is k h K H
   walk_is (c ∷ cs) k h K H =

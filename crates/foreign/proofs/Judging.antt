@@ -37,7 +37,7 @@ shares_equal : (o : Option Pair) (s t : Set) → Equal s t → Shares o s → Sh
 shares_equal None s t e h = h
 shares_equal (Some p) s t e (v, V, a, b) = (v, V, a, subst T (e v V) b)
 
-shares_alike : (t : Told) (v w : Frame) → Alike v w → SharesAll t v → SharesAll t w
+pub shares_alike : (t : Told) (v w : Frame) → Alike v w → SharesAll t v → SharesAll t w
 shares_alike t v w a h =
     record {
       x = shares_equal t.x v.x w.x a.x h.x;
@@ -46,10 +46,10 @@ shares_alike t v w a h =
       m = subst (IfAsked (Shares t.m)) a.m h.m;
     }
 
-shares_back : (t : Told) (v w : Frame) → Alike v w → SharesAll t w → SharesAll t v
+pub shares_back : (t : Told) (v w : Frame) → Alike v w → SharesAll t w → SharesAll t v
 shares_back t v w a h = shares_alike t w v (record { x = λ u U. sym (a.x u U); y = sym a.y; z = sym a.z; m = sym a.m }) h
 
-rules-alike : (t : Told) (v w : Frame) (b : ℕ) → Alike v w → Rules v t b → Rules w t b
+pub rules-alike : (t : Told) (v w : Frame) (b : ℕ) → Alike v w → Rules v t b → Rules w t b
 rules-alike t v w b a (inl (e, apart)) = inl (e, λ h. apart (shares_back t v w a h))
 rules-alike t v w b a (inr (e, h)) = inr (e, shares_alike t v w a h)
 
@@ -81,12 +81,12 @@ upright_axis p h = go (empty p) refl
 middle_three : (a b c d e f g : Bool) → T (a && b && c && d && e && f && g) → T d × T e × T f
 middle_three a b c d e f g h = (grind arith, grind arith, grind arith)
 
-told-upright : (h : Pair) (k : Kept) → T (usable k) → Upright (told h k)
+pub told-upright : (h : Pair) (k : Kept) → T (usable k) → Upright (told h k)
 told-upright h k u =
     let (y, z, m) = middle_three (usable_pair k.left) (usable_pair k.mid) (usable_pair k.right) (usable_pair k.y) (usable_pair k.z) (usable_pair k.m) (ltb k.codes (2 ^ 28)) u in
     record { y = upright_axis k.y y; z = upright_axis k.z z; m = upright_axis k.m m }
 
-granted-usable : (r : RawRecord) → record_refusal r ≡ None → T (usable (kept_in r))
+pub granted-usable : (r : RawRecord) → record_refusal r ≡ None → T (usable (kept_in r))
 granted-usable r h = go (usable (kept_in r)) h
   where
     go : (b : Bool) → ◌≡◌ {A = Option Refusal} (cond b None (Some (Misused Record))) None → T b
@@ -109,7 +109,7 @@ tested w t (Some g) (Err f) firm h = cc
 tested w t None (Ok v) firm (u, e, d) = let same : u ≡ v = cc in (refl, decided w t v firm (subst (Decides w t) same d))
 tested w t None (Err f) firm (u, e, d) = absurd cc
 
-tested_x : (wrapping : Bool) (w : Frame) (t : Told) (x : Option Pair) → t.x ≡ x → (r : Result Verdict Fault) → Firm w → TestedX wrapping w Column t x r → Judged w t (x_refusal wrapping x) r
+pub tested_x : (wrapping : Bool) (w : Frame) (t : Told) (x : Option Pair) → t.x ≡ x → (r : Result Verdict Fault) → Firm w → TestedX wrapping w Column t x r → Judged w t (x_refusal wrapping x) r
 tested_x wrapping w t None e (Ok v) firm h =
     let same : Skip ≡ v = cc in
     (refl, decided w t v firm (subst (Decides w t) same (λ k. subst (λ (o : Option Pair). Shares o w.x) e k.x)))

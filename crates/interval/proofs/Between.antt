@@ -7,7 +7,7 @@ use Rattle.number.specs.Values.{Held, Value}
 use Rattle.number.proofs.Plain.{lowest-le, le-highest}
 use Rattle.number.proofs.Order.{order, least_held, most_held, least_le, le-most}
 use Rattle.number.proofs.Arith.{zero_held, zero_number, sub-le, le-add, add-held, sub_held}
-use Rattle.interval.specs.Pairs.{Pair, pair, between, nothing, everything}
+use Rattle.interval.specs.Pairs.{Pair, pair, between, stored, nothing, everything}
 use Rattle.interval.specs.Laws.{Inside, Common, Meets, Merges, Adds, Everything}
 use Rattle.interval.specs.Ordinary as Ordinary
 
@@ -28,6 +28,9 @@ all v (V, n) = grind (arith, lowest-le, le-highest)
 -- a pair that covers a value goes up
 pub upward : (p : Pair) (v : Float) → Ends p → Held v → T (between p v) → T (le p.lo p.hi)
 upward p v (A, B) V h = grind order
+
+pub stored-upward : (p : Pair) (v : Float) → le p.lo p.hi ≡ true → between p v ≡ stored p v
+stored-upward p v u = rw u
 
 -- ends farther out lose nothing
 pub outward : (p q : Pair) (v : Float) → Ends p → Ends q → Held v → T (le q.lo p.lo) → T (le p.hi q.hi) → T (between p v) → T (between q v)

@@ -1,14 +1,21 @@
--- Sums and differences of the values of an f64, and the order.
-use Rattle.std.proofs.Common.{◌≡◌, suc, ◌+◌, ◌-◌, ◌*◌, ◌<◌, ◌≤◌, true, false, not, ◌&&◌, ◌||◌, T, ltb, leb, sym, refl, ◌∙◌, arith}
-use lib.Ieee.{Float, nan, inf, fin, binary64, add, sub, lt, eq, le, is_nan, fits}
-use lib.Ieee.Fits.{inf-fits, add-fits, sub-fits}
+-- Sums, differences and halves of the values of an f64, and the order.
+use Rattle.std.proofs.Common.{◌≡◌, suc, ◌+◌, ◌-◌, ◌*◌, ◌<◌, ◌≤◌, true, false, not, ◌&&◌, ◌||◌, T, ltb, leb, pos, negsuc, sym, refl, ◌∙◌, arith}
+use lib.Ieee.{Float, Format, nan, inf, fin, binary64, up, down, unlike, add, sub, mul, div, lt, eq, le, is_nan, fits}
+use lib.Ieee.Fits.{down_pos, inf-fits, add-fits, sub-fits}
+use lib.Ieee.Scale.{round_same}
 use Rattle.std.specs.Float.{float_zero, float_is_finite}
 use Rattle.number.proofs.Rank as Rank
 use Rattle.number.proofs.Rank.{reach, origin, origin-is}
 use Rattle.number.proofs.Sum as Sum
 use Rattle.number.proofs.Sum.{near, plus, less, limit, ends, near-pos, near-mono, near-sign, near-lowest, near-highest}
 use Rattle.number.specs.Values.{Held, Value, Same}
-use Rattle.number.proofs.Order.{rank, rank-top, lowest-is, highest-is, order, same_rank, rank_same}
+use Rattle.number.proofs.Order.{rank, rank-top, lowest-is, highest-is, order, le_not_lt, same_rank, rank_same}
+
+pub half : (f : Format) (x : Float) → div f x (fin false 1 (pos 1)) ≡ mul f x (fin false 1 (negsuc 0))
+unfolding div mul
+half f nan = refl
+half f (inf s) = refl
+half f (fin s m e) = round_same f (unlike s false) (m * up e * 1) (1 * 2 * down e) (m * up e * (1 * 1)) (down e * 2) (omega (arith, down_pos e)) (omega (arith, down_pos e)) (omega arith)
 
 -- ---- the ranks of what is given and of what is computed
 pub zero_held : Held float_zero
@@ -99,13 +106,24 @@ module _ (x d : Float) (h : Held x) (k : Held d) (n : T (not (is_nan x))) (r : T
       le-of_rank _ _ (sub_held x d, sub_number) (h, n)
       (rw (← near-own x (h, n), sub-num x d h k sub_number) (near-mono binary64 _ _ (omega (arith, zero_is, rank-of_le float_zero d zero_held k p))))
 
--- ---- when a difference is a NaN, its sign, and when it is the lower infinity
+-- ---- the terms of a sum that is a number; when a difference is a NaN, its sign, and when it is the lower infinity
 module _ (x y : Float) (h : Held x) (k : Held y) where
+  pub add-ends : T (not (is_nan (add binary64 x y))) → T (not (is_nan x)) × T (not (is_nan y))
+  add-ends n = let a = add_is x y h k in (grind (order, add-held), grind (order, add-held))
+
   pub sub-nan : is_nan (sub binary64 x y) ≡ (is_nan x || is_nan y || (eq x y && not (float_is_finite x)))
   sub-nan = let w = rank-top x h in grind (order, sub_is, sub_held, finite_is, near-pos binary64)
 
   pub sub-below : lt (sub binary64 x y) float_zero ≡ lt x y
   sub-below = let w = rank-top y k in grind (order, sub_is, sub_held, zero_is, zero_held, near-sign binary64, near-pos binary64)
+
+  pub sub-above : le float_zero (sub binary64 x y) ≡ (le y x && not (is_nan (sub binary64 x y)))
+  sub-above =
+      let a = le_not_lt float_zero (sub binary64 x y) zero_held (sub_held x y) in
+      let b = le_not_lt y x k h in
+      let c = sub-below in
+      let d = sub-nan in
+      grind (arith, zero_number)
 
   -- y lies `limit` units or more above x, an infinity being farther from all else than that
   pub sub-lowest : eq (sub binary64 x y) (inf true) ≡ (ltb 0 (rank x) && leb (rank x + limit binary64) (rank y))

@@ -2,7 +2,7 @@
 use Rattle.std.proofs.Common.{◌≡◌, ℕ, suc, ◌*◌, ◌<◌, min, max, true, false, cond, not, ◌&&◌, ◌||◌, T, eqb, ltb, leb, sym, refl, ◌∙◌, arith}
 use lib.Ieee.{Float, inf, binary64, lt, eq, le, is_nan}
 use Rattle.std.specs.Float.{float_min, float_max}
-use Rattle.number.specs.Values.{Held, Same}
+use Rattle.number.specs.Values.{Held, Value, Same}
 use Rattle.number.proofs.Plain as Plain
 use Rattle.number.proofs.Rank as Rank
 use Rattle.number.proofs.Rank.{origin}
@@ -29,6 +29,21 @@ nan_is = Rank.nan-rank binary64
 -- `grind order` proves what follows from comparisons and tests for a NaN
 pub ruleset order = (arith, le_is, lt-is, eq_is, nan_is)
 
+-- ---- numbers: `grind numbers` has no NaN to think of
+pub le-num : (x y : Float) → Value x → Value y → le x y ≡ leb (rank x) (rank y)
+le-num x y h k = grind order
+
+pub lt-num : (x y : Float) → Value x → Value y → lt x y ≡ ltb (rank x) (rank y)
+lt-num x y h k = grind order
+
+pub eq-num : (x y : Float) → Value x → Value y → eq x y ≡ eqb (rank x) (rank y)
+eq-num x y h k = grind order
+
+pub nan-num : (x : Float) → Value x → is_nan x ≡ false
+nan-num x h = grind order
+
+pub ruleset numbers = (arith, le-num, lt-num, eq-num, nan-num)
+
 -- ---- the ends of the order
 pub rank-top : (x : Float) → Held x → rank x < 2 * origin binary64
 unfolding rank
@@ -42,13 +57,39 @@ pub highest-is : suc (rank (inf false)) ≡ 2 * origin binary64
 unfolding rank Rank.rank origin
 highest-is = omega arith
 
--- ---- the smaller and the larger of two, and the other one where one is a NaN
+pub le_not_lt : (x y : Float) → Held x → Held y → le x y ≡ (not (lt y x) && not (is_nan x) && not (is_nan y))
+le_not_lt x y h k = grind order
+
+-- ---- a second rank, above all others at a NaN: with it on the left one test on naturals is the whole comparison
+unfoldable pub left : Float → ℕ
+left x = cond (eqb (rank x) 0) (2 * origin binary64) (rank x)
+
 module _ (x y : Float) (h : Held x) (k : Held y) where
+  pub le_left : le x y ≡ leb (left x) (rank y)
+  unfolding left
+  le_left = let a = rank-top y k in grind order
+
+  pub lt-left : lt x y ≡ ltb (left x) (rank y)
+  unfolding left
+  lt-left = let a = rank-top y k in grind order
+
+  pub eq-left : eq x y ≡ eqb (left x) (rank y)
+  unfolding left
+  eq-left = let a = rank-top y k in grind order
+
+  -- ---- the smaller and the larger of two, and the other one where one is a NaN
   pub least_held : Held (float_min x y)
   least_held = grind arith
 
   pub most_held : Held (float_max x y)
   most_held = grind arith
+
+  pub least_rank : left (float_min x y) ≡ min (left x) (left y)
+  unfolding left
+  least_rank = let a = rank-top x h in let b = rank-top y k in grind order
+
+  pub most_rank : rank (float_max x y) ≡ max (rank x) (rank y)
+  most_rank = grind order
 
   pub least_nan : is_nan (float_min x y) ≡ (is_nan x && is_nan y)
   least_nan = grind order
@@ -63,6 +104,13 @@ module _ (x y : Float) (h : Held x) (k : Held y) where
     pub le-most : le z (float_max x y) ≡ (le z x || le z y)
     le-most = grind order
 
+    -- the greatest lower bound of two numbers, and the least upper bound
+    pub le-least : T (not (is_nan x)) → T (not (is_nan y)) → le z (float_min x y) ≡ (le z x && le z y)
+    le-least p q = grind order
+
+    pub most_le : T (not (is_nan x)) → T (not (is_nan y)) → le (float_max x y) z ≡ (le x z && le y z)
+    most_le p q = grind order
+
 -- ---- the same number
 module _ (x y : Float) (h : Held x) (k : Held y) where
   pub same_rank : Same x y → rank x ≡ rank y
@@ -70,6 +118,14 @@ module _ (x y : Float) (h : Held x) (k : Held y) where
 
   pub rank_same : rank x ≡ rank y → Same x y
   rank_same e = grind order
+
+  same_left : Same x y → left x ≡ left y
+  unfolding left
+  same_left e = rw (same_rank e)
+
+  left-same : left x ≡ left y → Same x y
+  unfolding left
+  left-same e = let a = rank-top x h in let b = rank-top y k in grind order
 
 pub same_refl : (x : Float) → Held x → Same x x
 same_refl x h = grind order
@@ -106,3 +162,9 @@ module _ (x y x' y' : Float) (h : Held x) (k : Held y) (h' : Held x') (k' : Held
 
   pub lt_same : lt x y ≡ lt x' y'
   lt_same = lt-is x y h k ∙ rw (same_rank x x' h h' p, same_rank y y' k k' q) refl ∙ sym (lt-is x' y' h' k')
+
+  pub least_same : Same (float_min x y) (float_min x' y')
+  least_same = left-same _ _ (least_held x y h k) (least_held x' y' h' k') (omega (arith, least_rank x y h k, least_rank x' y' h' k', same_left x x' h h' p, same_left y y' k k' q))
+
+  pub most_same : Same (float_max x y) (float_max x' y')
+  most_same = rank_same _ _ (most_held x y h k) (most_held x' y' h' k') (omega (arith, most_rank x y h k, most_rank x' y' h' k', same_rank x x' h h' p, same_rank y y' k k' q))

@@ -1,8 +1,10 @@
 -- Laws of a cursor's pending counts.
 use Rattle.std.proofs.Common.{◌≡◌, ℕ, zero, suc, ◌+◌, ◌-◌, ◌*◌, ◌<◌, ◌≤◌, Bool, true, false, ◌≢◌, List, [], ◌∷◌, length, get_or, drop, set, replicate, Some, None, Ok, Err, Result, MatchResult, Option, MatchOption, sym, refl, ap, ◌∙◌, subst, arith, length-set, get_or-set_other, get_or-set_same}
+use lib.Ieee.{Float}
 use Rattle.std.specs.Result.{result_ok}
 use Rattle.interval.specs.declared.fault.Cause.TheVariants.{Truncated}
 use Rattle.shapes.specs.declared.endian.Endian.{Endian}
+use Rattle.shapes.specs.declared.endian.Endian.TheVariants.{Big, Little}
 use Rattle.shapes.specs.declared.code.Dimension.{Dimension}
 use Rattle.shapes.specs.declared.code.Dimension.TheVariants.{Xy, Xyz, Xym, Xyzm}
 use Rattle.shapes.specs.declared.code.Kind.{Kind}
@@ -11,7 +13,7 @@ use Rattle.shapes.specs.declared.code.Code.{Code}
 use Rattle.shapes.specs.declared.coord.Coord.{Coord}
 use Rattle.shapes.specs.declared.stop.Stop.{Stop}
 use Rattle.shapes.specs.Codes.{width}
-use Rattle.shapes.specs.Numbers.{u32_at, coord_at}
+use Rattle.shapes.specs.Numbers.{u32_at, f64_at, coord_at}
 use Rattle.shapes.specs.Source.{Shape}
 use Rattle.shapes.specs.Wkb.{Reader, points, line, times, counted, shape, finish, fault, body, coord, give, Headed, Unheaded, placed, decode, refused, read, levels}
 use Rattle.shapes.specs.Pending.{pending, parts}
@@ -207,6 +209,11 @@ module _ (d : Dimension) (inner : Kind) (counts : List ℕ) (depth : ℕ) (b : L
 
 -- ---- a coordinate
 
+pub f64_list : (o : Endian) (b : List ℕ) → f64_at o (get_or b 0 0 ∷ get_or b 1 0 ∷ get_or b 2 0 ∷ get_or b 3 0 ∷ get_or b 4 0 ∷ get_or b 5 0 ∷ get_or b 6 0 ∷ get_or b 7 0 ∷ []) ≡ f64_at o b
+unfolding f64_at
+f64_list Big b = refl
+f64_list Little b = refl
+
 pub width_two : (d : Dimension) → 2 ≤ width d
 width_two Xy = omega arith
 width_two Xyz = omega arith
@@ -240,6 +247,10 @@ give-next o d j q counts depth b rest x l le h w e ex =
     ∙ ap (λ cs. coord_at o d j b ∷ cs) (ap (λ r. (points o d true n K r).coords) (sym e)
     ∙ sym (ap (λ r. r.coords) (pending-at o d true q (set counts 32 n) depth rest n (get_or counts 31 0) (parts d q counts depth) (get_or-set_same counts 32 n 0 h32) (get_or-set_other counts 32 31 n 0 ne) (parts-set d q counts depth 32 n le2))))
     ∙ ap (λ y. y ∷ (pending o d true q (set counts 32 n) depth rest).coords) (sym ex)
+
+-- the same ordinates make the same coordinate
+pub coord-same : {x x' y y' z z' m m' : Float} (j : Bool) → x ≡ x' → y ≡ y' → z ≡ z' → m ≡ m' → ◌≡◌ {A = Coord} (record { x = x; y = y; z = z; m = m; joins = j }) (record { x = x'; y = y'; z = z'; m = m'; joins = j })
+coord-same j ex ey ez em = cc
 
 -- ---- a fresh cursor
 

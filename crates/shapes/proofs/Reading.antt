@@ -1,8 +1,8 @@
 -- Laws of the readers.
-use Rattle.std.proofs.Common.{get_or-drop, ◌≡◌, ℕ, zero, suc, ◌+◌, ◌-◌, ◌*◌, ◌%◌, ◌<◌, ◌≤◌, Bool, true, false, List, [], ◌∷◌, length, get_or, drop, Some, None, Option, Result, sym, refl, ap, ◌∙◌, inl, inr, suc-mul, zero-mul, arith, length-drop, drop-drop, Bor, le-leb, MatchResult}
+use Rattle.std.proofs.Common.{get_or-drop, ◌≡◌, ℕ, zero, suc, ◌+◌, ◌-◌, ◌*◌, ◌%◌, ◌<◌, ◌≤◌, Bool, true, false, ◌≢◌, List, [], ◌∷◌, length, get_or, drop, Some, None, Option, Result, sym, refl, ap, ◌∙◌, inl, inr, suc-mul, zero-mul, arith, length-drop, drop-drop, Bor, ne_eqb, le-leb, MatchResult}
 use Rattle.std.specs.Result.{IsErrAnd}
 use Rattle.std.proofs.lemmas.Result.{MatchResult-weaker, err_from_is_err_and}
-use Rattle.std.proofs.lemmas.Bool.{cases_lt}
+use Rattle.std.proofs.lemmas.Bool.{cases_lt, cases_eq}
 use borrow.Author.Tests.{lt-leb}
 use Rattle.shapes.specs.declared.endian.Endian.{Endian}
 use Rattle.shapes.specs.declared.endian.Endian.TheVariants.{Big, Little}
@@ -13,10 +13,15 @@ use Rattle.shapes.specs.declared.stop.Stop.{Stop}
 use Rattle.shapes.specs.declared.code.Kind.{Kind}
 use Rattle.shapes.specs.declared.code.Kind.TheVariants.{Point, Line, Polygon, MultiPoint, MultiLine, MultiPolygon, Collection}
 use Rattle.interval.specs.declared.fault.Cause.{Cause}
-use Rattle.interval.specs.declared.fault.Cause.TheVariants.{Truncated, ByteOrder, TypeCode, PartType, TooDeep}
+use Rattle.interval.specs.declared.fault.Cause.TheVariants.{Truncated, ByteOrder, TypeCode, PartType, TooDeep, TrailingBytes}
+use Rattle.interval.specs.declared.fault.Fault.{Fault}
 use Rattle.shapes.specs.Codes.{width, code_of, fits}
 use Rattle.shapes.specs.Numbers.{u32_at, coord_at, order_of}
 use Rattle.shapes.specs.Wkb.{Reader, Run, run_of, Ending, stop, ended, whole, fault, give, eights, coord, points, line, times, counted, header, body, shape, placed, before, Passes, Fails, Headed, Unheaded, Follows, PointsFollow, code_at, code_in, code_or, coords_in, decode, decoded, refused, read, finish, levels}
+
+pub u32_list : (o : Endian) (b : List ℕ) → u32_at o (get_or b 0 0 ∷ get_or b 1 0 ∷ get_or b 2 0 ∷ get_or b 3 0 ∷ []) ≡ u32_at o b
+u32_list Big b = refl
+u32_list Little b = refl
 
 -- a field that is there, and one that is not
 pub whole-there : (n : ℕ) (k : Reader) (b : List ℕ) → n ≤ length b → whole n k b ≡ k b
@@ -171,7 +176,7 @@ u32_list_1 Big b = simp get_or-drop
 u32_list_1 Little b = simp get_or-drop
 
 -- a header that stops before b', the last bytes of b
-stops_before : (outer : Option Code) (b b' : List ℕ) (s : Stop) (e : Cause) → length b' ≤ length b → s ≡ before e b' → ((g : Endian → Code → Reader) → header outer g b ≡ fault e b') → Unheaded outer b s
+pub stops_before : (outer : Option Code) (b b' : List ℕ) (s : Stop) (e : Cause) → length b' ≤ length b → s ≡ before e b' → ((g : Endian → Code → Reader) → header outer g b ≡ fault e b') → Unheaded outer b s
 stops_before outer b b' s e le p h =
     record {
       within = omega (arith, ap (λ (z : Stop). z.left) p);
@@ -225,6 +230,12 @@ module _ (outer : Option Code) (b b' : List ℕ) (o : Endian) (h : 1 ≤ length 
           sym (ap (λ x. code_in x b) e ∙ ap code_or d'),
           g,
         )
+
+pub order_some : (n : ℕ) → n < 2 → (o : Endian) × (order_of n ≡ Some o)
+order_some n h = elim (cases_eq n 0) [ inl e ↦ (Big, rw e) | inr ne ↦ let e : n ≡ 1 = omega arith in (Little, rw e) ]
+
+pub order_none : (n : ℕ) → 2 ≤ n → order_of n ≡ None
+order_none n h = let a : n ≢ 0 = omega arith in let b : n ≢ 1 = omega arith in rw (ne_eqb n 0 a, ne_eqb n 1 b)
 
 -- ---- shapes
 
@@ -290,9 +301,26 @@ module _ (l : ℕ) (outer : Option Code) (b : List ℕ) where
 
 -- ---- decoding
 
+pub code-at : (b : List ℕ) (o : Endian) (c : Code) → order_of (get_or b 0 0) ≡ Some o → code_of (u32_at o (drop 1 b)) ≡ Some c → c ≡ code_at b
+code-at b o c e e2 = sym (ap (λ x. code_in x b) e ∙ ap code_or e2)
+
 module _ (b : List ℕ) where
   pub decode-fails : (s : Stop) → Fails (shape levels None) b s → decode b ≡ refused (placed (length b) s.cause s.left)
   decode-fails s p = ap (λ e. decoded (length b) e (code_at b) (coords_in b)) (p.stops finish)
+
+  ended-trails : (t : ℕ) (c : Code) (cs : List Coord) (rest : List ℕ) → 0 < length rest → decoded t (ended rest) c cs ≡ refused (placed t TrailingBytes (length rest))
+  ended-trails t c cs [] h = absurd (omega arith)
+  ended-trails t c cs (x ∷ xs) h = refl
+
+  ended-read : (t : ℕ) (c : Code) (cs : List Coord) (rest : List ℕ) → length rest ≡ 0 → decoded t (ended rest) c cs ≡ read c cs
+  ended-read t c cs [] h = refl
+  ended-read t c cs (x ∷ xs) h = absurd (omega arith)
+
+  pub decode-trails : (rest : List ℕ) (f : Fault) → Passes (shape levels None) b rest → 0 < length rest → f ≡ placed (length b) TrailingBytes (length rest) → decode b ≡ refused f
+  decode-trails rest f p h e = ap (λ e. decoded (length b) e (code_at b) (coords_in b)) (p finish) ∙ ended-trails (length b) (code_at b) (coords_in b) rest h ∙ ap refused (sym e)
+
+  pub decode-read : (rest : List ℕ) → Passes (shape levels None) b rest → length rest ≡ 0 → decode b ≡ read (code_at b) (coords_in b)
+  decode-read rest p h = ap (λ e. decoded (length b) e (code_at b) (coords_in b)) (p finish) ∙ ended-read (length b) (code_at b) (coords_in b) rest h
 
   decoded-is : (t : ℕ) (v : Ending) (c c' : Code) (cs cs' : List Coord) → decoded t v c cs ≡ read c' cs' → (c ≡ c') × (cs ≡ cs')
   decoded-is t (stop f n) c c' cs cs' h = let z : ◌≡◌ {A = ℕ} 0 1 = cc in absurd (omega arith)

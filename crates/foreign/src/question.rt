@@ -39,6 +39,7 @@ fn byte_of(verdict: Verdict) -> u8
 }
 
 impl Question {
+    #[inline(always)]
     pub(crate) fn new(asked: Asked, hint: RawPair) -> Result<Question, Fault>
         ensures { (w : RawWindow) → asked ≡ asked_in w → MatchResult result (λ q. (pairs_refusal (wraps w) w ≡ None) × Poses w (pair_of hint) q) (λ f. pairs_refusal (wraps w) w ≡ Some (Refused f)) }
     {

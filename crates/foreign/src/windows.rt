@@ -69,18 +69,20 @@ impl TryFrom<&RawWindow> for Asked {
         if raw.asked > 3 {
             return Err(Misuse::Asked);
         }
+        // a pair that is not asked for is not read: C need not have set it
         Ok(Asked {
             kind,
             x: raw.x.into(),
             y: raw.y.into(),
-            z: (raw.asked % 2 == 1).then_some(raw.z.into()),
-            m: (raw.asked >= 2).then_some(raw.m.into()),
+            z: (raw.asked % 2 == 1).then(|| raw.z.into()),
+            m: (raw.asked >= 2).then(|| raw.m.into()),
         })
     }
 }
 
 impl EitherWindow {
-    // The window that is asked for, or the refusal of one of its pairs. A window's kind is a type: each arm is another instance.
+    // The window that is asked for, or the refusal of one of its pairs. A window's kind is a type: each arm is another instance. By calls, what is asked and the window would be copied on the way to a question, which one page's verdict feels.
+    #[inline(always)]
     pub(crate) fn new(asked: Asked) -> Result<EitherWindow, Fault>
         ensures { (w : RawWindow) → asked ≡ asked_in w → OpensEither w result }
     {

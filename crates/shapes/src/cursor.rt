@@ -2,7 +2,7 @@
 ghost use Rattle.std.specs.Prelude.{◌≡◌, ◌+◌, ◌-◌, ◌*◌, ◌/◌, ◌<◌, ◌≤◌, true, [], length, MatchOption, slice_index};
 ghost use Rattle.shapes.specs.Codes.{takes};
 ghost use Rattle.shapes.specs.Pending.{still, shape_of, Opens};
-ghost use Rattle.shapes.specs.Steps.{entered, Between, Stepped, Enters, Settles, Gave, TookRun};
+ghost use Rattle.shapes.specs.Steps.{entered, Between, Stepped, Enters, Settles, Given, Gave, TookRun};
 
 use crate::code::{Code, Dimension, Kind};
 use crate::columns::hulls_of_points;
@@ -162,10 +162,18 @@ impl<'a> Cursor<'a> {
             return self.take_coord();
         }
         let mut t = *self;
-        t.settle()?;
-        let c = t.take_coord()?;
+        let c = t.first_coord()?;
         *self = t;
         Some(c)
+    }
+
+    // The first coordinate of the next run. It is called, with the copy: so `next` is small enough to be inlined in a walk, and the walk's cursor stays in registers. Along a line that takes a quarter of the time.
+    #[inline(never)]
+    fn first_coord(&mut self) -> Option<Coord>
+        ensures { MatchOption result (still self.old ≡ []) (λ c. Given self.old c self.new) }
+    {
+        self.settle()?;
+        self.take_coord()
     }
 
     // Takes the points of the run that a settled cursor stands in, or as many of them as are there; none where there is none.

@@ -16,6 +16,7 @@ impl<S: ShapeSource> ShapeSource for Swapped<S> {
 
     ghost room = { λ s. S.room s.inner };
 
+    #[inline(always)]
     #[tactic(auto, using(crate::proofs::Sources::lacking))]
     fn next(&mut self) -> Option<Coord> {
         self.inner.next().map(Coord::exchanged)

@@ -154,7 +154,7 @@ impl<'a> Cursor<'a> {
         Some(c)
     }
 
-    // The next coordinate, which is dropped; none, and nothing altered, where there is none. It is inlined in every walk, as `next` is: a call for each coordinate makes three times as many instructions along a line.
+    // The next coordinate, which is dropped; none, and nothing altered, where there is none. It is inlined in every walk, as `next` is: by a call for each coordinate, a walk that owns its cursor takes up to three times as many instructions along a line.
     #[inline(always)]
     fn next_coord(&mut self) -> Option<Coord>
         ensures { Gave result self.old self.new }
@@ -165,7 +165,7 @@ impl<'a> Cursor<'a> {
         self.first_coord()
     }
 
-    // The same between two runs. The cursor itself moves on, and is as before again where there is no coordinate: to move on a copy, and to copy it back, takes 40% more instructions over a multipoint.
+    // The same between two runs. The cursor itself moves on, and is as before again where there is no coordinate: to move on a copy, and to copy it back, takes a walk that owns its cursor about 40% more instructions over a multipoint.
     #[inline(always)]
     fn first_coord(&mut self) -> Option<Coord>
         ensures { Gave result self.old self.new }
